@@ -1,22 +1,22 @@
-//! The names on the tracks of tasks: their own, and those of what they wait for.
+//! The names on the tracks of tasks: their own, and those of what they wait for and lock.
 
 use evm_model::TASK_LIMIT;
 use evm_room::{Refused, grow, push_text};
-use run_marks::{Mark, RunNames};
+use run_marks::{Kind, Mark, RunNames};
 use std::alloc::Global;
-use trace_sites::Label;
+use trace_sites::{Bearer, Label};
 
 fn label(
     alloc: Global,
     list: &mut Vec<Label>,
     task: u8,
-    from: Option<u64>,
+    bearer: Bearer,
     text: &str,
 ) -> Result<(), Refused> {
     let mut name = String::new(alloc);
     push_text(&mut name, text)?;
     grow(list, 1)?;
-    list.push_reserved(Label { task, from, name });
+    list.push_reserved(Label { task, bearer, name });
     Ok(())
 }
 
@@ -28,14 +28,37 @@ pub(crate) fn label_tasks(
 ) -> Result<(), Refused> {
     for task in 0..TASK_LIMIT as u8 {
         if let Some(name) = names.task(task) {
-            label(alloc, list, task, None, name)?;
+            label(alloc, list, task, Bearer::Itself, name)?;
         }
     }
     Ok(())
 }
 
-/// Labels the waits that begin at a time, where what is waited for has a name.
-pub(crate) fn label_waits(
+// Labels the wait or the lock of a mark, if what is waited for or locked has a name.
+fn label_mark(
+    alloc: Global,
+    list: &mut Vec<Label>,
+    names: &RunNames,
+    mark: &Mark,
+    at: u64,
+) -> Result<(), Refused> {
+    let (task, bearer, name) = match *mark {
+        Mark::Waits { task, wait } => (task, Bearer::Awaited(at), names.waited(wait)),
+        Mark::Owner {
+            mutex,
+            to: Some(task),
+            ..
+        } => (task, Bearer::Locked(at), names.of(Kind::Mutex, mutex)),
+        _ => return Ok(()),
+    };
+    match name {
+        None => Ok(()),
+        Some(name) => label(alloc, list, task, bearer, name),
+    }
+}
+
+/// Labels the waits and locks that begin at a time.
+pub(crate) fn label_marks(
     alloc: Global,
     list: &mut Vec<Label>,
     names: &RunNames,
@@ -43,11 +66,7 @@ pub(crate) fn label_waits(
     at: u64,
 ) -> Result<(), Refused> {
     for mark in marks {
-        if let Mark::Waits { task, wait } = mark
-            && let Some(name) = names.waited(*wait)
-        {
-            label(alloc, list, *task, Some(at), name)?;
-        }
+        label_mark(alloc, list, names, mark, at)?;
     }
     Ok(())
 }

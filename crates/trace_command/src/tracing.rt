@@ -8,7 +8,7 @@ ghost use Rattle.trace_sites.specs.Placed.{IsPlacedSomewhere};
 
 use crate::changes::{Changes, Span};
 use crate::clock::Clock;
-use crate::labels::{label_tasks, label_waits};
+use crate::labels::{label_marks, label_tasks};
 use crate::places::{place_marks, place_tasks};
 use evm_devs::AnyDevice;
 use evm_image::Image;
@@ -85,7 +85,7 @@ impl<M: Meter> Telling<'_, '_, M> {
         if self.placed {
             place_marks(&mut self.places, self.walk.machine(), marks, at.at)?;
         }
-        label_waits(alloc, &mut self.labels, names, marks, at.behind)?;
+        label_marks(alloc, &mut self.labels, names, marks, at.behind)?;
         self.changes.event(list, self.walk.look(), marks, at)
     }
 

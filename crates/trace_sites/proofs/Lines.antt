@@ -1,6 +1,6 @@
 -- The pieces of a place, and of a label, are its text.
 use Rattle.std.proofs.Common.{◌≡◌, ℕ, ◌+◌, List, [], ◌∷◌, ◌++◌, refl, ap, ◌∙◌, append_assoc}
-use Rattle.std.specs.Prelude.{codes, None, Some, Result, Ok, Err, OnOk}
+use Rattle.std.specs.Prelude.{codes, Some, Result, Ok, Err, OnOk}
 use Rattle.json.specs.Json.{no_members}
 use Rattle.json.specs.Print.{quoted, escape_byte}
 use Rattle.text_json.specs.Text.{text, shown_bytes}
@@ -8,7 +8,8 @@ use Rattle.evm_text.specs.Written.{decimal, numeral}
 use Rattle.trace_records.specs.Entries.{arguments, trace_event, string_member}
 use Rattle.trace_records.specs.declared.track.Track.TheVariants.{Task}
 use Rattle.trace_sites.specs.declared.place.CodePlace.{CodePlace}
-use Rattle.trace_sites.specs.Labels.{label_text, task_words, wait_words}
+use Rattle.trace_sites.specs.declared.bearer.Bearer.TheVariants.{Itself, Awaited, Locked}
+use Rattle.trace_sites.specs.Labels.{label_text, lock_words, task_words, wait_words}
 use Rattle.trace_sites.specs.Places.{place_words, line_by}
 use Rattle.trace_sites.specs.Pieces.{name_pieces, place_pieces}
 
@@ -35,16 +36,20 @@ unfolding name_pieces escape_byte numeral
 task_line task name =
     named_five (codes ",\n{\"ph\":\"M\",\"pid\":2,\"tid\":") (decimal (task + 1)) (codes ",\"ts\":0,\"name\":\"thread_name\",\"args\":{\"name\":") (quoted (shown_bytes name))
 
-pub name_is_line : (task : ℕ) (name : List ℕ) → name_pieces (task + 1) (task_words task name) ≡ label_text task name None
+pub name_is_line : (task : ℕ) (name : List ℕ) → name_pieces (task + 1) (task_words task name) ≡ label_text task name Itself
 unfolding label_text
 name_is_line task name = task_line task (task_words task name)
 
--- ---- the instant of a wait
-pub wait_is_line : (task from : ℕ) (name : List ℕ) → place_pieces (task + 1) from (wait_words name) ≡ label_text task name (Some from)
+-- ---- the instant of a wait, and of a lock
+pub wait_is_line : (task from : ℕ) (name : List ℕ) → place_pieces (task + 1) from (wait_words name) ≡ label_text task name (Awaited from)
 unfolding label_text
 wait_is_line task from name = named_line task from (wait_words name)
 
-pub ruleset line = (place_is_line, name_is_line, wait_is_line)
+pub lock_is_line : (task at : ℕ) (name : List ℕ) → place_pieces (task + 1) at (lock_words name) ≡ label_text task name (Locked at)
+unfolding label_text
+lock_is_line task at name = named_line task at (lock_words name)
+
+pub ruleset line = (place_is_line, name_is_line, wait_is_line, lock_is_line)
 
 -- ---- one text behind another
 

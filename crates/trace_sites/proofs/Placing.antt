@@ -32,7 +32,9 @@ use Rattle.trace_records.specs.Laws.{AreFitting}
 use Rattle.trace_records.specs.Telling.{Tells}
 use Rattle.trace_records.proofs.Traces.{traces}
 use Rattle.trace_sites.specs.declared.place.CodePlace.{CodePlace}
-use Rattle.trace_sites.specs.Labels.{LabelValue, label_by, label_items, label_json, label_line, label_lines, label_text}
+use Rattle.trace_sites.specs.declared.bearer.Bearer.{Bearer}
+use Rattle.trace_sites.specs.declared.bearer.Bearer.TheVariants.{Itself, Awaited, Locked}
+use Rattle.trace_sites.specs.Labels.{LabelValue, label_by, label_items, label_json, label_line, label_lines, label_text, time_of}
 use Rattle.trace_sites.specs.Places.{item_by, line_by, place_items, place_line, place_lines, place_symbol}
 use Rattle.trace_sites.specs.Placed.{FitsLabel, FitsPlace, IsPending, IsPlaced, placed_json, placed_text, records_then}
 
@@ -159,16 +161,18 @@ records_numbers : (rs : List Record) (more : Items) → ItemsHaveNumbers (record
 records_numbers [] more have rest = rest
 records_numbers (r ∷ rs) more have rest = (have.0, records_numbers rs more have.1 rest)
 
-label_numbers : (from : Option ℕ) (task : ℕ) (name : List ℕ) (more : Items) → task + 1 < 2 ^ 64 → IfSome from (λ at. at < 2 ^ 64) → ItemsHaveNumbers more → ItemsHaveNumbers (item (label_by task name from) more)
-label_numbers None task name more fits time rest =
+label_numbers : (bearer : Bearer) (task : ℕ) (name : List ℕ) (more : Items) → task + 1 < 2 ^ 64 → IfSome (time_of bearer) (λ at. at < 2 ^ 64) → ItemsHaveNumbers more → ItemsHaveNumbers (item (label_by task name bearer) more)
+label_numbers Itself task name more fits time rest =
     ((tt, ((decimals 2).0 (omega arith), ((decimals (task + 1)).0 fits, ((decimals 0).0 (omega arith), (tt, ((tt, tt), tt)))))), rest)
-label_numbers (Some from) task name more fits time rest =
+label_numbers (Awaited from) task name more fits time rest =
     ((tt, ((decimals 2).0 (omega arith), ((decimals (task + 1)).0 fits, ((decimals from).0 time, (tt, (tt, tt)))))), rest)
+label_numbers (Locked at) task name more fits time rest =
+    ((tt, ((decimals 2).0 (omega arith), ((decimals (task + 1)).0 fits, ((decimals at).0 time, (tt, (tt, tt)))))), rest)
 
 labels_numbers : (labels : List LabelValue) (more : Items) → AllByRecursion FitsLabel labels → ItemsHaveNumbers more → ItemsHaveNumbers (label_items labels more)
 labels_numbers [] more fits rest = rest
 labels_numbers (label ∷ labels) more fits rest =
-    label_numbers label.from label.task label.name (label_items labels more) fits.0.0 fits.0.1 (labels_numbers labels more fits.1 rest)
+    label_numbers label.bearer label.task label.name (label_items labels more) fits.0.0 fits.0.1 (labels_numbers labels more fits.1 rest)
 
 trace_numbers : (changes : List Change) → AreFitting changes → ItemsHaveNumbers (record_items (trace_of changes))
 trace_numbers changes fits = (document-HasNumbers (trace_text (trace_of changes)) (trace_json (trace_of changes)) (traces changes fits)).0
@@ -181,13 +185,14 @@ places_deep : (symbols : List Named) (places : List CodePlace) → items_depth (
 places_deep symbols [] = omega arith
 places_deep symbols (p ∷ places) = place_deep (place_symbol symbols p) p (place_items symbols places) (places_deep symbols places)
 
-label_deep : (from : Option ℕ) (task : ℕ) (name : List ℕ) → depth (label_by task name from) ≤ 3
-label_deep None task name = omega arith
-label_deep (Some from) task name = omega arith
+label_deep : (bearer : Bearer) (task : ℕ) (name : List ℕ) → depth (label_by task name bearer) ≤ 3
+label_deep Itself task name = omega arith
+label_deep (Awaited from) task name = omega arith
+label_deep (Locked at) task name = omega arith
 
 labels_deep : (labels : List LabelValue) (more : Items) → items_depth more ≤ 3 → items_depth (label_items labels more) ≤ 3
 labels_deep [] more rest = rest
-labels_deep (label ∷ labels) more rest = max-le (label_deep label.from label.task label.name) (labels_deep labels more rest)
+labels_deep (label ∷ labels) more rest = max-le (label_deep label.bearer label.task label.name) (labels_deep labels more rest)
 
 members_deep : (track : Track) (detail : Detail) → members_depth (note_members track detail) ≤ 1
 members_deep track ProcessName = omega arith

@@ -12,7 +12,7 @@ use Rattle.trace_records.specs.declared.change.Change.{Change}
 use Rattle.trace_records.specs.Entries.{Record, record_json, trace_text}
 use Rattle.trace_records.specs.Changes.{trace_of}
 use Rattle.trace_sites.specs.declared.place.CodePlace.{CodePlace}
-use Rattle.trace_sites.specs.Labels.{LabelValue, label_items}
+use Rattle.trace_sites.specs.Labels.{LabelValue, label_items, time_of}
 use Rattle.trace_sites.specs.Places.{place_items}
 
 -- the records, and behind them other items
@@ -29,7 +29,7 @@ placed_json rs labels symbols places = object (member (codes "traceEvents") (arr
 
 -- numbers of 8 bits for tasks, and of 64 for times
 abbrev pub FitsLabel : LabelValue → Type 0
-FitsLabel label = (label.task + 1 < 2 ^ 64) × IfSome label.from (λ at. at < 2 ^ 64)
+FitsLabel label = (label.task + 1 < 2 ^ 64) × IfSome (time_of label.bearer) (λ at. at < 2 ^ 64)
 
 abbrev pub FitsPlace : CodePlace → Type 0
 FitsPlace p = (p.task + 1 < 2 ^ 64) × (p.at < 2 ^ 64)

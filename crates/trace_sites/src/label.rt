@@ -1,13 +1,13 @@
 //! Names on the track of a task.
 
+use crate::bearer::Bearer;
 use std::marker::Model;
 
 /// A name on the track of a task.
 #[derive(Drop)]
 pub struct Label {
     pub task: u8,
-    /// When the task begins to wait for what has the name; None where the name is the task's own.
-    pub from: Option<u64>,
+    pub bearer: Bearer,
     pub name: String,
 }
 
@@ -17,5 +17,5 @@ impl Model for Label {
 
     ghost Value = { LabelValue };
 
-    ghost view = { λ label. record { task = label.task; from = label.from; name = string_bytes label.name } };
+    ghost view = { λ label. record { task = label.task; bearer = label.bearer; name = string_bytes label.name } };
 }

@@ -1,13 +1,14 @@
 //! One place, or one label, as JSON.
 
-ghost use Rattle.std.specs.Prelude.{◌≡◌, ◌++◌, codes, IfOk, OnOk, None, Some};
+ghost use Rattle.std.specs.Prelude.{◌≡◌, ◌++◌, codes, IfOk, OnOk, Some};
 ghost use Rattle.std.specs.String.{string_bytes};
 ghost use Rattle.evm_text.specs.Appending.{Appends};
 ghost use Rattle.evm_text.specs.Written.{hexadecimal};
-ghost use Rattle.trace_sites.specs.Labels.{label_line, label_text, task_words, wait_words};
+ghost use Rattle.trace_sites.specs.Labels.{label_line, label_text, lock_words, task_words, wait_words};
 ghost use Rattle.trace_sites.specs.Places.{doing_text, distance_text, place_words, place_line, line_by, place_symbol};
 ghost use Rattle.trace_sites.specs.Pieces.{name_pieces, place_pieces};
 
+use crate::bearer::Bearer;
 use crate::label::Label;
 use crate::place::{CodePlace, Doing};
 use evm_room::{Refused, push_text};
@@ -115,6 +116,16 @@ fn wait_words(alloc: Global, name: &str) -> Result<String, Refused>
     Ok(text)
 }
 
+// What a task locks.
+fn lock_words(alloc: Global, name: &str) -> Result<String, Refused>
+    ensures { IfOk result (λ text. string_bytes text ≡ lock_words name.now) }
+{
+    let mut text = String::new(alloc);
+    push_text(&mut text, "locks ")?;
+    push_text(&mut text, name)?;
+    Ok(text)
+}
+
 #[tactic(auto, unfolding(crate::specs::Pieces::name_pieces))]
 fn push_name_line(out: &mut String, thread: u64, name: &[u8]) -> Result<(), Refused>
     ensures { OnOk result (string_bytes out.new ≡ string_bytes out.old ++ name_pieces thread name.now) }
@@ -132,7 +143,7 @@ fn push_name_line(out: &mut String, thread: u64, name: &[u8]) -> Result<(), Refu
 // Appends the name of the track of a task.
 #[tactic(auto, using(crate::proofs::Lines::line))]
 fn push_name(alloc: Global, out: &mut String, task: u8, name: &str) -> Result<(), Refused>
-    ensures { OnOk result (string_bytes out.new ≡ string_bytes out.old ++ label_text task name.now None) }
+    ensures { OnOk result (string_bytes out.new ≡ string_bytes out.old ++ label_text task name.now Bearer.Itself) }
 {
     let text = task_words(alloc, task, name)?;
     push_name_line(out, u64::from(task) + 1, text.as_bytes())
@@ -147,10 +158,19 @@ fn push_wait(
     from: u64,
     name: &str,
 ) -> Result<(), Refused>
-    ensures { OnOk result (string_bytes out.new ≡ string_bytes out.old ++ label_text task name.now (Some from)) }
+    ensures { OnOk result (string_bytes out.new ≡ string_bytes out.old ++ label_text task name.now (Bearer.Awaited from)) }
 {
     let text = wait_words(alloc, name)?;
     push_line(out, u64::from(task) + 1, from, text.as_bytes())
+}
+
+// Appends the instant from which on a task owns a mutex.
+#[tactic(auto, using(crate::proofs::Lines::line))]
+fn push_lock(alloc: Global, out: &mut String, task: u8, at: u64, name: &str) -> Result<(), Refused>
+    ensures { OnOk result (string_bytes out.new ≡ string_bytes out.old ++ label_text task name.now (Bearer.Locked at)) }
+{
+    let text = lock_words(alloc, name)?;
+    push_line(out, u64::from(task) + 1, at, text.as_bytes())
 }
 
 /// Appends a label, behind a comma and on a line of its own.
@@ -159,9 +179,10 @@ pub(crate) fn push_label(alloc: Global, out: &mut String, label: &Label) -> Resu
     ensures { OnOk result (string_bytes out.new ≡ string_bytes out.old ++ label_line label.now) }
 {
     let name = label.name.as_str();
-    match label.from {
-        None => push_name(alloc, out, label.task, name),
-        Some(from) => push_wait(alloc, out, label.task, from, name),
+    match label.bearer {
+        Bearer::Itself => push_name(alloc, out, label.task, name),
+        Bearer::Awaited(from) => push_wait(alloc, out, label.task, from, name),
+        Bearer::Locked(at) => push_lock(alloc, out, label.task, at, name),
     }
 }
 

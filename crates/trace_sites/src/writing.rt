@@ -6,10 +6,11 @@ ghost use Rattle.evm_streams.specs.Writes.{Took};
 ghost use Rattle.trace_records.specs.Changes.{trace_of};
 ghost use Rattle.trace_records.specs.Telling.{IsTelling, Tells};
 ghost use Rattle.trace_records.specs.declared.change.Change.{Change};
-ghost use Rattle.trace_sites.specs.Labels.{label_line, label_lines};
+ghost use Rattle.trace_sites.specs.Labels.{label_line, label_lines, time_of};
 ghost use Rattle.trace_sites.specs.Places.{place_line, place_lines};
 ghost use Rattle.trace_sites.specs.Placed.{FitsLabel, FitsPlace, IsPending, IsPlaced, placed_text};
 
+use crate::bearer::Bearer;
 use crate::label::Label;
 use crate::line::{push_label, push_place};
 use crate::place::CodePlace;
@@ -172,12 +173,13 @@ fn fit_place(place: CodePlace)
     let (_task, _at) = (place.task, place.at);
 }
 
-fn fit_time(at: Option<u64>)
-    ensures { IfSome at (λ at. at < 2 ^ 64) }
+fn fit_bearer(bearer: Bearer)
+    ensures { IfSome (time_of bearer) (λ at. at < 2 ^ 64) }
 {
-    match at {
-        None => {}
-        Some(_time) => {}
+    match bearer {
+        Bearer::Itself => {}
+        Bearer::Awaited(_from) => {}
+        Bearer::Locked(_at) => {}
     }
 }
 
@@ -185,7 +187,7 @@ fn fit_label(label: &Label)
     ensures { FitsLabel label.now }
 {
     let _task = label.task;
-    fit_time(label.from);
+    fit_bearer(label.bearer);
 }
 
 fn fit_labels(labels: &[Label])

@@ -1,5 +1,6 @@
 //! The header of a run: JSON with the names of its files, the bytes of its pokes, and the symbols of the program.
 
+use crate::poking::push_pokes;
 use evm_ram::BASE;
 use evm_room::{Refused, push_text};
 use evm_text::push_decimal;
@@ -133,25 +134,6 @@ fn push_window(out: &mut String, about: &About<'_>) -> Result<(), Refused> {
     }
 }
 
-// The bytes of a journal's line that is a poke, in hexadecimal; None of another line.
-fn poke_bytes(line: &str) -> Option<&str> {
-    let (_, bytes) = line.strip_prefix("poke ")?.split_once(' ')?;
-    Some(bytes)
-}
-
-// The bytes of each poke of a journal, in their order.
-fn push_pokes(out: &mut String, journal: &str) -> Result<(), Refused> {
-    let mut comma = "";
-    for line in journal.lines() {
-        if let Some(bytes) = poke_bytes(line) {
-            push_text(out, comma)?;
-            push_quoted(out, bytes.as_bytes())?;
-            comma = ",";
-        }
-    }
-    Ok(())
-}
-
 /// The header of a run, whose journal has this text.
 pub fn about_text(alloc: Global, about: &About<'_>, journal: &str) -> Result<String, Refused> {
     let mut out = String::new(alloc);
@@ -161,8 +143,8 @@ pub fn about_text(alloc: Global, about: &About<'_>, journal: &str) -> Result<Str
     push_quoted(&mut out, about.journal.as_bytes())?;
     push_window(&mut out, about)?;
     push_text(&mut out, ",\"pokes\":[")?;
-    push_pokes(&mut out, journal)?;
-    push_text(&mut out, "],\"symbols\":[")?;
+    push_pokes(&mut out, journal.as_bytes())?;
+    push_text(&mut out, ",\"symbols\":[")?;
     push_symbols(&mut out, about.program.symbols.symbols())?;
     push_text(&mut out, "],\"names\":[")?;
     push_names(&mut out, about.names.all())?;

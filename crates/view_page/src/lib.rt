@@ -7,6 +7,7 @@ mod heads;
 mod laws;
 mod marks;
 mod page;
+mod poking;
 mod row;
 mod script;
 mod shell;

@@ -33,6 +33,10 @@ const CALLS = {
 };
 // switch_in_band has no argument, but one number is written for it
 const WRITTEN = { 33: 1 };
+// the arguments that may have a name, by the kinds of names
+const NAMED = { task: 0, mutex: LOCK, semaphore: SEMAPHORE, event: EVENT, 'flag group': FLAGS, timer: TIMER };
+// what the object of set_line is, by its action
+const ACTED_ON = { 1: 'semaphore', 2: 'flag group' };
 const ERRNOS = { 1: 'EPERM', 3: 'ESRCH', 11: 'EAGAIN', 12: 'ENOMEM', 16: 'EBUSY', 22: 'EINVAL', 35: 'EDEADLK', 38: 'ENOSYS', 110: 'ETIMEDOUT' };
 const PASSAGES = ['raised', 'received', 'played', 'played'];
 // marks of lines: their code says which, of which processor, how far it came, and from OFTEN on how often is behind it
@@ -360,6 +364,16 @@ class Run {
     }
     return low;
   }
+  // The task that the processor of an event runs before it; null where it runs none, or the event is of no processor.
+  callerAt(event) {
+    const code = this.rows[this.at(event)][0];
+    if (code >= 16 && (code < 48 || code >= 56)) return null;
+    for (const { bars } of [0, 1].map((stage) => this.stageLane(code & 7, stage))) {
+      const i = below(bars.to, event + 0.5);
+      if (i < bars.from.length && bars.from[i] <= event) return bars.note[i];
+    }
+    return null;
+  }
   symbolAt(address) {
     let best = null;
     for (const s of this.symbols) {
@@ -488,7 +502,7 @@ function barLook(lane, what, note, colours) {
     case 'ready-0': return { fill: colours.ready, ink: colours.ink, text: 'ready' };
     case 'ready-1': return { fill: colours.ready, ink: colours.ink, text: 'ready in-band', low: true };
     case 'waits': return { fill: colours.wait, frame: colours.alarm, ink: colours.ink, text: `waits${note >> 16 ? ' in-band' : ''}: ${lane.run.waitName((note >> 8) & 255, note & 255)}`, thin: true };
-    case 'waiting': return { fill: colours.wait, frame: colours.alarm, ink: colours.ink, text: `waits: task ${note}`, thin: true };
+    case 'waiting': return { fill: colours.wait, frame: colours.alarm, ink: colours.ink, text: `waits: ${note.split(' ').map((task) => lane.run.taskName(Number(task))).join(', ')}`, thin: true };
     case 'wire': return { fill: colours.alarm, ink: colours.ink, text: '', narrow: true };
     case 'log': return { fill: colours.ready, ink: colours.ink, text: '', thin: true };
     default: return { fill: colours.ready, ink: colours.ink, text: '' };
@@ -509,7 +523,7 @@ function sign(pen, what, x, y, colours) {
     case 'puts': pen.shape(diamond, colours.good); break;
     case 'hollow': pen.shape(diamond, colours.paper, colours.alarm); break;
     case 'woken': pen.shape(triangle(false), colours.good); break;
-    case 'rises': pen.shape(triangle(true), colours.mark); break;
+    case 'rises': pen.shape(triangle(true), colours.mark, colours.paper); break;
     case 'falls': pen.shape(triangle(false), colours.paper, colours.mark); break;
     case 'migrates': pen.line(x, y - 7, x, y + 7, colours.mark, 2); pen.shape([[x, y - 6], [x + 6, y - 2], [x, y + 2]], colours.mark); break;
     case 'created': case 'set': pen.line(x, y - 7, x, y + 7, colours.ink, 2); break;
@@ -697,6 +711,7 @@ const ALARMS = new Set(['merged', 'merges', 'lost', 'hollow', 'faulted', 'deadli
 
 // ---- 6 words of an event
 const times = (n) => (n > 1 ? `, ${n} times` : '');
+const counted = (n, one, more) => `${n} ${n === 1 ? one : more}`;
 function eventWords(run, k) {
   const row = run.rows[k], code = row[0], cpu = code & 7;
   const place = code < 16 ? placeWords(run, row[1]) : '';
@@ -751,28 +766,35 @@ function partWords(run, part, row, i) {
     case 119: return `the clock ticks${times(row[i])}`;
     case 121: return `${task(row[i])} moves to processor ${row[i + 1]}`;
     case 120: return `${task(row[i + 1])} has a notice: ${NOTICES[row[i]]}`;
-    case 200: return callWords(row, i);
+    case 200: return callWords(run, row, i);
     case 201: return `the object has ${row[i]} then`;
     case 202: return `${DEVICES[row[i]] ?? `device ${row[i]}`}: ${row[i + 2]} is put into register ${row[i + 1]}`;
     case 203: return `${DEVICES[row[i]] ?? `device ${row[i]}`}: register ${row[i + 1]} gives ${row[i + 2]}`;
     case 204: return `${task(row[i])} is of processor ${row[i + 1]}, ${STAGES[row[i + 2]]}, rank ${row[i + 3]}, ${CLASSES[row[i + 4]]}${row[i + 6] > 1 ? `; it begins at ${placeWords(run, row[i + 6])}` : ''}`;
-    case 205: return `${run.waitName(TIMER, row[i])} is ${row[i + 2] ? `due at tick ${row[i + 2]}` : 'off'}${row[i + 3] ? `, each ${row[i + 3]} ticks` : ''}, with ${row[i + 4]} expiries`;
+    case 205: return `${run.waitName(TIMER, row[i])} is ${row[i + 2] ? `due at tick ${row[i + 2]}` : 'off'}${row[i + 3] ? `, each ${counted(row[i + 3], 'tick', 'ticks')}` : ''}, with ${counted(row[i + 4], 'expiry', 'expiries')}`;
     default: return '';
   }
 }
-function callWords(row, i) {
+function argumentWords(call, value) {
+  if (call === 1) return JSON.stringify(String.fromCharCode(value & 255));
+  return value >= RAM ? hexadecimal(value) : value;
+}
+function callWords(run, row, i) {
   const call = CALLS[row[i]], count = partLength(row, i - 1) - 2;
   const values = [];
   for (let n = 0; n < Math.min(count, call ? call[1].length : 0); n += 1) {
-    const value = row[i + 2 + n], shown = row[i] === 1 ? JSON.stringify(String.fromCharCode(value & 255)) : value >= RAM ? hexadecimal(value) : value;
-    if (!(call[1][n] === 'deadline' && !value)) values.push(`${call[1][n]} ${shown}`);
+    const value = row[i + 2 + n], word = row[i] === 14 && n === 2 ? ACTED_ON[row[i + 3]] ?? 'object' : call[1][n];
+    if (!(word === 'deadline' && !value)) values.push(word in NAMED ? run.named(word, NAMED[word], value) : `${word} ${argumentWords(row[i], value)}`);
   }
   const name = call ? `${call[0]}(${values.join(', ')})` : `call ${row[i]}`;
   return row[i + 1] === 0 ? `${name} waits` : row[i + 1] === 1 ? `${name}: the task changes its stage first` : `${name} answers ${answerWords(row[i + 1])}`;
 }
 function allWords(run, k) {
   const row = run.rows[k], words = [];
-  eachPart(row, (part, i) => { const text = part === PLACES ? '' : partWords(run, part, row, i); if (text) words.push(text); });
+  eachPart(row, (part, i) => {
+    const text = part === PLACES ? '' : partWords(run, part, row, i), caller = part === 200 ? run.callerAt(run.first[k]) : null;
+    if (text) words.push(caller === null ? text : `${run.taskName(caller)}: ${text}`);
+  });
   return words;
 }
 // The line of the script that repeats the run up to an event and with it, and how many lines stand before it.
@@ -819,8 +841,9 @@ function linksOf(run, k) {
     if (part === 111) {
       const kind = row[i + 1], number = row[i + 2], key = (kind === RETAKE ? LOCK : kind) * 256 + number;
       effect(from(get(`woken${task}`), event + 1), `the wait of ${name} ends`);
-      if (kind === LOCK || kind === RETAKE) cause(before(get(`owner${number}`), event), `mutex ${number} got its owner`);
-      cause(before(get(`takes${key}`), event), `the last that took ${run.waitName(kind, number)}`);
+      if (kind === LOCK || kind === RETAKE) cause(before(get(`owner${number}`), event), `${run.waitName(LOCK, number)} got its owner`);
+      const took = before(get(`takes${key}`), event);
+      if (took !== null) cause(took, `the last that took ${run.waitName(kind, number)}, by ${run.taskName(run.callerAt(took))}`);
       cause(before(get(`hollow${key}`), event), 'the last that woke nobody: it came before this wait');
     }
     if (part === 112) {
@@ -832,7 +855,7 @@ function linksOf(run, k) {
       cause(woken, `${run.taskName(row[i + 1])} was woken`);
     }
     if (part === 118 && row[i + 2]) cause(before(get(`waits${row[i + 2] - 1}`), event), `${run.taskName(row[i + 2] - 1)} begins to wait`);
-    if (part === 118 && row[i + 2]) effect(from(get(`owner${task}`), event + 1), `mutex ${task} gets another owner, or none`);
+    if (part === 118 && row[i + 2]) effect(from(get(`owner${task}`), event + 1), `${run.waitName(LOCK, task)} gets another owner, or none`);
     if (part === 205) {
       const is = (what) => from(get(`timer${task}.${what}`), event) === event, timer = run.waitName(TIMER, task);
       if (is('set')) effect(from(get(`timer${task}.expired`), event + 1), `${timer} expires`);
@@ -861,11 +884,11 @@ function warningsOf(run, k) {
   for (const lane of run.lanes) {
     for (let at = below(lane.marks.at, event); at < lane.marks.at.length && lane.marks.at[at] === event; at += 1) {
       const what = lane.marks.what[at];
-      if (what === 'hollow') words.push(`It woke nobody: no task waited for ${lane.name.replace('event', 'event object')}.`);
+      if (what === 'hollow') words.push(`It woke nobody: no task waited for ${run.waitName(lane.wait, lane.number)}.`);
       if (what === 'merged') words.push(`${lane.name} was on the wire already: the two raises merge into one.`);
       if (what === 'merges') words.push(`${lane.name} was in the log already: what was received before and this merge into one play.`);
       if (what === 'lost' && lane.kind === 'line') words.push(`No task waited for line ${lane.line}: it is lost.`);
-      if (what === 'overrun') words.push(`${lane.name} expired before its last expiry was asked for: an overrun.`);
+      if (what === 'overrun') words.push(`${run.waitName(TIMER, lane.number)} expired before its last expiry was asked for: an overrun.`);
     }
   }
   return words;

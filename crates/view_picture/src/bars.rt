@@ -2,10 +2,11 @@
 
 ghost use Rattle.std.specs.Prelude.{◌≡◌, ◌<◌, false, IfOk, length};
 
-use crate::layout::{CELL, ROW, label_width, x_of};
+use crate::layout::{CELL, ROW, x_of};
+use crate::names::bar_name;
 use crate::shapes::{label, shape};
 use evm_model::{Stage, Wait};
-use evm_room::{Refused, push_text};
+use evm_room::Refused;
 use std::alloc::Global;
 use text_xml::{Draft, Key, Tag};
 use view_timeline::{
@@ -131,38 +132,6 @@ fn shade_words(alloc: Global, row: &Row<'_>, first: &Cell, last: &Cell) -> Resul
         }
     }
     Ok(words)
-}
-
-// A word, the number of a task, and its name, if it has one.
-fn push_bar_name(out: &mut String, word: &str, task: u8, name: &str) -> Result<(), Refused> {
-    push_text(out, word)?;
-    say(out, &[Piece::Number(u64::from(task))])?;
-    if name.is_empty() {
-        return Ok(());
-    }
-    push_text(out, " ")?;
-    push_text(out, name)
-}
-
-// The number of a task, with the word and its name as far as there is room for them.
-fn bar_name(alloc: Global, task: u8, naming: Naming<'_>, width: u32) -> Result<String, Refused> {
-    let name = naming.run.task(task).unwrap_or("");
-    let room = width.saturating_sub(6);
-    let mut text = String::new(alloc);
-    push_bar_name(&mut text, "task ", task, name)?;
-    if label_width(text.as_str()) > room {
-        text.clear();
-        push_bar_name(&mut text, "", task, name)?;
-    }
-    if label_width(text.as_str()) > room {
-        text.clear();
-        push_bar_name(&mut text, "task ", task, "")?;
-    }
-    if label_width(text.as_str()) > room {
-        text.clear();
-        push_bar_name(&mut text, "", task, "")?;
-    }
-    Ok(text)
 }
 
 fn span_sides(row: &Row<'_>, column: usize, count: usize) -> [(Key, u32); 4] {

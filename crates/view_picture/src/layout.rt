@@ -8,6 +8,9 @@ pub(crate) const CELL: u32 = 16;
 /// Where the first cell begins.
 pub(crate) const LEFT: u32 = 104;
 
+/// Where the names of rows begin, in front of their cells.
+pub(crate) const NAMES: u32 = 30;
+
 /// Where the first strip begins.
 pub(crate) const TOP: u32 = 44;
 

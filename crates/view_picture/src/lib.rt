@@ -8,6 +8,7 @@ mod flags;
 mod layout;
 mod legend;
 mod lines;
+mod names;
 mod parting;
 mod room;
 mod shapes;

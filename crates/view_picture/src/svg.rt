@@ -9,11 +9,12 @@ use crate::bars::{Row, Subject, bar_names, bars, stalls};
 use crate::events::boxes;
 use crate::flags::flag_sign;
 use crate::layout::{
-    CELL, EVENTS, IN_BAND, LEFT, LEGEND, OUT_OF_BAND, RAISED, RECEIVED, ROW, mutex_y, strip_top,
-    width, x_of, y_of,
+    CELL, EVENTS, IN_BAND, LEFT, LEGEND, NAMES, OUT_OF_BAND, RAISED, RECEIVED, ROW, mutex_y,
+    strip_top, width, x_of, y_of,
 };
 use crate::legend::legend;
 use crate::lines::{Place, line_sign};
+use crate::names::mutex_name;
 use crate::parting::parting_sign;
 use crate::room::Rows;
 use crate::shapes::{label, plain};
@@ -64,16 +65,15 @@ fn rows_of<'a>(strip: &Strip<'a>, cpu: u8) -> [Row<'a>; 2] {
     ]
 }
 
-fn row_words(alloc: Global, subject: Subject) -> Result<String, Refused> {
-    let mut words = String::new(alloc);
-    match subject {
-        Subject::Stage(_, stage) => say(&mut words, &[Piece::Text(stage_name(stage))])?,
-        Subject::Mutex(mutex) => say(
-            &mut words,
-            &[Piece::Text("mutex "), Piece::Number(u64::from(mutex))],
-        )?,
+fn row_words(alloc: Global, row: &Row<'_>) -> Result<String, Refused> {
+    match row.subject {
+        Subject::Mutex(mutex) => mutex_name(alloc, mutex, row.naming),
+        Subject::Stage(_, stage) => {
+            let mut words = String::new(alloc);
+            say(&mut words, &[Piece::Text(stage_name(stage))])?;
+            Ok(words)
+        }
     }
-    Ok(words)
 }
 
 fn draw_row(draft: Draft, alloc: Global, row: &Row<'_>, cells: &[Cell]) -> Result<Draft, Refused>
@@ -87,9 +87,9 @@ fn draw_row(draft: Draft, alloc: Global, row: &Row<'_>, cells: &[Cell]) -> Resul
         (Key::Width, x_of(cells.len()).saturating_sub(LEFT)),
         (Key::Height, ROW),
     ];
-    let words = row_words(alloc, row.subject)?;
+    let words = row_words(alloc, row)?;
     let draft = plain(draft, Tag::Rectangle, "row", &sides)?;
-    let draft = label(draft, "d", 30, row.y.saturating_add(13), words.as_str())?;
+    let draft = label(draft, "d", NAMES, row.y.saturating_add(13), words.as_str())?;
     let draft = bars(draft, alloc, row, cells)?;
     let draft = stalls(draft, alloc, row, cells)?;
     bar_names(draft, alloc, row, cells)
@@ -126,7 +126,7 @@ fn row_name(
     ensures { IfOk result (λ new. new ≡ draft) }
 {
     let y = y_of(strip.top, cpu, part).saturating_add(11);
-    label(draft, "d", 30, y, name)
+    label(draft, "d", NAMES, y, name)
 }
 
 fn lane(draft: Draft, alloc: Global, strip: &Strip<'_>, cpu: u8) -> Result<Draft, Refused>

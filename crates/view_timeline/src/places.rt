@@ -41,8 +41,8 @@ pub(crate) fn push_place(
     }
 }
 
-// Appends a name in parentheses, if there is one.
-fn push_name(out: &mut String, name: Option<&str>) -> Result<(), Refused> {
+/// Appends a name in parentheses, if there is one.
+pub(crate) fn push_name(out: &mut String, name: Option<&str>) -> Result<(), Refused> {
     match name {
         None => Ok(()),
         Some(name) => say(out, &[Text(" ("), Text(name), Text(")")]),

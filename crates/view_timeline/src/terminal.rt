@@ -3,11 +3,11 @@
 use crate::cells::{Cell, Shown};
 use crate::picture::Picture;
 use crate::pieces::{Piece, say};
-use crate::places::Naming;
+use crate::places::{Naming, push_name};
 use crate::seen::{held_in, is_stalled, letter, share, task_on};
 use crate::strips::{PARTING, STRIP, column_in, column_of, strip_count};
 use crate::words::{push_cell, push_deed};
-use evm_model::{PROCESSOR_LIMIT, Stage};
+use evm_model::{PROCESSOR_LIMIT, Stage, Wait};
 use evm_room::{Refused, push_text};
 use std::alloc::Global;
 
@@ -147,8 +147,13 @@ fn push_awaited(out: &mut String, mutex: u8, cells: &[Cell]) -> Result<(), Refus
     push_text(out, "\n")
 }
 
-// Who owns a mutex, and where a task waits for it.
-fn push_mutex(out: &mut String, mutex: u8, cells: &[Cell]) -> Result<(), Refused> {
+// Who owns a mutex, its name, and where a task waits for it.
+fn push_mutex(
+    out: &mut String,
+    mutex: u8,
+    naming: Naming<'_>,
+    cells: &[Cell],
+) -> Result<(), Refused> {
     let pieces = [
         Piece::Text("mutex "),
         Piece::Number(u64::from(mutex)),
@@ -162,6 +167,7 @@ fn push_mutex(out: &mut String, mutex: u8, cells: &[Cell]) -> Result<(), Refused
     for cell in cells {
         push_text(out, task_sign(held_in(cell, mutex).owner))?;
     }
+    push_name(out, naming.run.waited(Wait::Lock(mutex)))?;
     push_text(out, "\n")?;
     push_awaited(out, mutex, cells)
 }
@@ -204,7 +210,7 @@ fn push_strip(
         push_cpu(out, cpu, cells)?;
     }
     for mutex in 0..picture.mutex_count() {
-        push_mutex(out, mutex, cells)?;
+        push_mutex(out, mutex, picture.naming, cells)?;
     }
     push_caret(out, column)?;
     push_text(out, "\n")
