@@ -20,7 +20,7 @@ pub returns-clause-stays : goal.returns-clause-stays
 returns-clause-stays g c =
     let s : State = state_of c.args.boot.now c.args.journal.now c.args.board.now in
     let longer = ap length c.push.ensures.events ∙ length-append c.args.journal.now.events (event_lent c.args.event.now ∷ []) in
-    let free = sym c.refusal.ensures ∙ c.in_default.is in
+    let free = sym c.refusal.ensures ∙ c.in_default-refusal.is in
     let open_yet : is_full s ≡ false = grind (arith, nat_tests) in (
       omega (arith, longer, c.push.ensures.room, c.requires.0),
       rw c.push.ensures.events

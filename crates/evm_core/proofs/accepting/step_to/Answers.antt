@@ -34,8 +34,8 @@ returns-clause-stays g c =
       rw c.push_steps.ensures.events (steps_more s.journal 1 c.args.c c.requires.2 (omega arith)),
     )
 
-pub returns-then-len-capacity-clause-err : goal.returns-then-len-capacity-clause-err
-returns-then-len-capacity-clause-err g c =
+pub returns-then-len-boot-clause-err : goal.returns-then-len-boot-clause-err
+returns-then-len-boot-clause-err g c =
     let s : State = state_of c.args.boot.now c.args.journal.now c.args.board.now in
     let full : is_full s ≡ true = grind (arith, nat_tests, c.len.ensures.count) in
     step-full c.args.c s full
