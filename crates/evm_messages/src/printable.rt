@@ -1,12 +1,9 @@
 //! Printable ASCII.
 
-ghost use Rattle.std.specs.Prelude.{◌≡◌, ◌<◌, length, IfSome};
-ghost use Rattle.evm_messages.specs.Printable.{is_printable};
+ghost use Rattle.std.specs.Prelude.{◌<◌, length, IfSome};
 
 /// Whether a byte is printable ASCII, from blank to `~`.
-pub fn is_printable(c: u8) -> bool
-    ensures { result ≡ is_printable c }
-{
+pub(crate) fn is_printable(c: u8) -> bool {
     b' ' <= c && c <= b'~'
 }
 
