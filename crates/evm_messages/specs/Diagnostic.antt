@@ -1,30 +1,21 @@
--- Diagnostics: the message on standard error about a file or a line of a file, what it quotes, and how it is written; reports on a file
--- or a line, whatever the words.
+-- Messages on standard error: a report on a file or on a line of a file, whatever its words.
 use Rattle.std.specs.Prelude.{◌≡◌, ℕ, List, [], ◌∷◌, ◌++◌, ◌⊎◌, Result, Ok, Err, codes}
 use Rattle.evm_text.specs.Written.{decimal}
 use Rattle.evm_streams.specs.declared.sink.Writing.{Writing}
 use Rattle.evm_streams.specs.declared.sink.WriteFault.{WriteFault}
 use Rattle.evm_streams.specs.Writes.{Took, TookPrefix}
-use Rattle.evm_messages.specs.Excerpt.{quoting}
-use Rattle.evm_messages.specs.Message.{message_text}
-use Rattle.evm_messages.specs.declared.diagnostic.Diagnostic.{Diagnostic}
-use Rattle.evm_messages.specs.declared.diagnostic.Diagnostic.TheVariants.{Alone, Quoting}
 
 -- the text behind a place
 abbrev pub behind_place : List ℕ → List ℕ
-behind_place message = codes ": " ++ message ++ codes "\n"
+behind_place words = codes ": " ++ words ++ codes "\n"
 
--- a message about a file, or about the program
+-- words about a file, or about the program
 abbrev pub about : List ℕ → List ℕ → List ℕ
-about name message = name ++ behind_place message
+about name words = name ++ behind_place words
 
--- a message about a line of a file, in the form that editors jump to
+-- words about a line of a file, in the form that editors jump to
 abbrev pub about_line : List ℕ → ℕ → List ℕ → List ℕ
-about_line name line message = name ++ (codes ":" ++ (decimal line ++ behind_place message))
-
-abbrev pub diagnostic_text : Diagnostic → List ℕ
-diagnostic_text (Alone message) = message_text message
-diagnostic_text (Quoting message between word) = quoting (message_text message) between.now word.now
+about_line name line words = name ++ (codes ":" ++ (decimal line ++ behind_place words))
 
 -- what a message is about: a file, or a line of a file
 pub data Place : Type 0 where
@@ -37,7 +28,24 @@ module _ {E : Type 0} (takes : E → Writing → List ℕ → E → Type 0) wher
   Writes text (Ok done) e e' = Took takes e text e'
   Writes text (Err fault) e e' = TookPrefix takes e text e'
 
-  -- the same, whatever the answer
+  -- A text with some words in it was written, likewise.
+  abbrev pub WritesSome : (List ℕ → List ℕ) → Result (Unit {0}) WriteFault → E → E → Type 0
+  WritesSome text answer e e' = (words : List ℕ) × Writes (text words) answer e e'
+
+  -- Some words were written.
+  unfoldable pub TookWords : E → E → Type 0
+  TookWords e e' = (words : List ℕ) × Took takes e words e'
+
+  -- A write failed after a prefix of some words.
+  unfoldable pub TookPart : E → E → Type 0
+  TookPart e e' = (words : List ℕ) × TookPrefix takes e words e'
+
+  -- some words, as the answer says
+  abbrev pub WritesWords : Result (Unit {0}) WriteFault → E → E → Type 0
+  WritesWords (Ok done) e e' = TookWords e e'
+  WritesWords (Err fault) e e' = TookPart e e'
+
+  -- A text was written, or a write failed after a prefix of it, whatever the answer.
   abbrev pub Reports : List ℕ → E → E → Type 0
   Reports text e e' = Took takes e text e' ⊎ TookPrefix takes e text e'
 

@@ -1,4 +1,1 @@
 pub mod Diagnostic
-pub mod Excerpt
-pub mod Message
-pub mod Printable

@@ -8,6 +8,84 @@ use crate::printable::odd_byte;
 /// The command `step` without its operands; `stepi` is another.
 const STEP: &[u8] = b"step";
 
+const STEP_FORM: &str =
+    "bad line: step wants C N: a processor below 256 and a count of 1 to 1048576, decimal without leading zeros";
+
+// The other commands, and the form that each wants. A command stands before those with which it begins.
+const FORMS: [(&str, &str); 23] = [
+    (
+        "boot",
+        "bad line: boot wants P RAM CAP or P RAM CAP W: processors, bytes, events and the ticks of a watchdog, decimal without leading zeros",
+    ),
+    ("tick", "bad line: tick stands alone on its line"),
+    (
+        "raise",
+        "bad line: raise wants C L: a processor and an interrupt line, decimal, below 256",
+    ),
+    (
+        "bell",
+        "bad line: bell wants C L: a processor and an interrupt line, decimal, below 256",
+    ),
+    (
+        "stop",
+        "bad line: stop wants C: a processor, decimal, below 256",
+    ),
+    (
+        "go",
+        "bad line: go wants C: a processor, decimal, below 256",
+    ),
+    (
+        "stepi",
+        "bad line: stepi wants C: a processor, decimal, below 256",
+    ),
+    (
+        "setpc",
+        "bad line: setpc wants C V: a processor, decimal, and the pc, lower-case hexadecimal without 0x",
+    ),
+    (
+        "set",
+        "bad line: set wants C R V: a processor and a register, decimal, and a value, lower-case hexadecimal without 0x",
+    ),
+    (
+        "poke",
+        "bad line: poke wants A HEX: an address, lower-case hexadecimal without 0x, and 1 to 64 bytes of two digits each",
+    ),
+    (
+        "break",
+        "bad line: break wants A: an address, lower-case hexadecimal without 0x",
+    ),
+    (
+        "unbreak",
+        "bad line: unbreak wants A: an address, lower-case hexadecimal without 0x",
+    ),
+    (
+        "regs",
+        "bad line: regs wants C: a processor, decimal, below 256",
+    ),
+    (
+        "mem",
+        "bad line: mem wants A N: an address, lower-case hexadecimal without 0x, and a decimal count",
+    ),
+    (
+        "stages",
+        "bad line: stages wants C: a processor, decimal, below 256",
+    ),
+    ("tasks", "bad line: tasks stands alone on its line"),
+    ("owners", "bad line: owners stands alone on its line"),
+    ("rank", "bad line: rank wants T: a task, decimal, below 256"),
+    (
+        "counts",
+        "bad line: counts wants C L: a processor and an interrupt line, decimal, below 256",
+    ),
+    ("journal", "bad line: journal stands alone on its line"),
+    ("console", "bad line: console stands alone on its line"),
+    ("notices", "bad line: notices stands alone on its line"),
+    (
+        "words",
+        "bad line: words wants I: a device, decimal, below 256",
+    ),
+];
+
 /// The message of a line that has a byte which is not printable.
 pub fn byte_detail(byte: u8) -> Message {
     if byte == b'\r' {
@@ -39,84 +117,27 @@ fn other_form(line: &[u8]) -> &'static str {
     }
 }
 
-fn view_form(line: &[u8]) -> &'static str {
-    if line.starts_with(b"regs") {
-        "bad line: regs wants C: a processor, decimal, below 256"
-    } else if line.starts_with(b"mem") {
-        "bad line: mem wants A N: an address, lower-case hexadecimal without 0x, and a decimal count"
-    } else if line.starts_with(b"stages") {
-        "bad line: stages wants C: a processor, decimal, below 256"
-    } else if line.starts_with(b"tasks") {
-        "bad line: tasks stands alone on its line"
-    } else if line.starts_with(b"owners") {
-        "bad line: owners stands alone on its line"
-    } else if line.starts_with(b"rank") {
-        "bad line: rank wants T: a task, decimal, below 256"
-    } else if line.starts_with(b"counts") {
-        "bad line: counts wants C L: a processor and an interrupt line, decimal, below 256"
-    } else if line.starts_with(b"journal") {
-        "bad line: journal stands alone on its line"
-    } else if line.starts_with(b"console") {
-        "bad line: console stands alone on its line"
-    } else if line.starts_with(b"notices") {
-        "bad line: notices stands alone on its line"
-    } else if line.starts_with(b"words") {
-        "bad line: words wants I: a device, decimal, below 256"
-    } else {
-        other_form(line)
+// The form that the first word of a line wants, if it is a command.
+fn command_form(line: &[u8]) -> Option<&'static str> {
+    if line.starts_with(b"step ") || line == STEP {
+        return Some(STEP_FORM);
     }
-}
-
-fn debug_form(line: &[u8]) -> &'static str {
-    if line.starts_with(b"stepi") {
-        "bad line: stepi wants C: a processor, decimal, below 256"
-    } else if line.starts_with(b"setpc") {
-        "bad line: setpc wants C V: a processor, decimal, and the pc, lower-case hexadecimal without 0x"
-    } else if line.starts_with(b"set") {
-        "bad line: set wants C R V: a processor and a register, decimal, and a value, lower-case hexadecimal without 0x"
-    } else if line.starts_with(b"poke") {
-        "bad line: poke wants A HEX: an address, lower-case hexadecimal without 0x, and 1 to 64 bytes of two digits each"
-    } else if line.starts_with(b"break") {
-        "bad line: break wants A: an address, lower-case hexadecimal without 0x"
-    } else if line.starts_with(b"unbreak") {
-        "bad line: unbreak wants A: an address, lower-case hexadecimal without 0x"
-    } else {
-        view_form(line)
+    for (command, form) in FORMS {
+        if line.starts_with(command.as_bytes()) {
+            return Some(form);
+        }
     }
-}
-
-fn event_form(line: &[u8]) -> &'static str {
-    if line.starts_with(b"tick") {
-        "bad line: tick stands alone on its line"
-    } else if line.starts_with(b"raise") {
-        "bad line: raise wants C L: a processor and an interrupt line, decimal, below 256"
-    } else if line.starts_with(b"bell") {
-        "bad line: bell wants C L: a processor and an interrupt line, decimal, below 256"
-    } else if line.starts_with(b"stop") {
-        "bad line: stop wants C: a processor, decimal, below 256"
-    } else if line.starts_with(b"go") {
-        "bad line: go wants C: a processor, decimal, below 256"
-    } else {
-        debug_form(line)
-    }
-}
-
-// The form that the first word of a line wants.
-fn form(line: &[u8]) -> &'static str {
-    if line.starts_with(b"boot") {
-        "bad line: boot wants P RAM CAP or P RAM CAP W: processors, bytes, events and the ticks of a watchdog, decimal without leading zeros"
-    } else if line.starts_with(b"step ") || line == STEP {
-        "bad line: step wants C N: a processor below 256 and a count of 1 to 1048576, decimal without leading zeros"
-    } else {
-        event_form(line)
-    }
+    None
 }
 
 // A line of printable bytes.
 fn printable_detail(line: &[u8]) -> &'static str {
-    match spacing(line) {
-        Some(words) => words,
-        None => form(line),
+    if let Some(words) = spacing(line) {
+        return words;
+    }
+    match command_form(line) {
+        Some(form) => form,
+        None => other_form(line),
     }
 }
 

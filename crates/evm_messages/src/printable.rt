@@ -1,26 +1,16 @@
 //! Printable ASCII.
 
-ghost use Rattle.std.specs.Prelude.{◌≡◌, ◌<◌, length, IfSome};
-ghost use Rattle.evm_messages.specs.Printable.{is_printable};
-
 /// Whether a byte is printable ASCII, from blank to `~`.
-pub fn is_printable(c: u8) -> bool
-    ensures { result ≡ is_printable c }
-{
+pub(crate) fn is_printable(c: u8) -> bool {
     b' ' <= c && c <= b'~'
-}
-
-// The index of the first byte that is not printable.
-fn unprintable_at(line: &[u8]) -> Option<usize>
-    ensures within { IfSome result (λ i. i < length line.now) }
-{
-    line.iter().position(|c| !is_printable(*c))
 }
 
 /// The first byte of a line that is not printable.
 pub fn odd_byte(line: &[u8]) -> Option<u8> {
-    match unprintable_at(line) {
-        Some(i) => Some(line[i]),
-        None => None,
+    for byte in line.iter() {
+        if !is_printable(*byte) {
+            return Some(*byte);
+        }
     }
+    None
 }

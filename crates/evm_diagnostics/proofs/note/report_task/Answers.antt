@@ -6,4 +6,4 @@ pub returns : goal.returns
 returns g c =
     let fault : task_fault c.args.task.now.state ≡ Some c.in-Some.fault = search rules in
     let hart : slice_get c.args.machine.now.board.parts.harts c.args.t ≡ Some c.in-Some-hart.hart = search rules in
-    rw (fault, hart) (c.report.new.errors, c.report.ensures.told, refl)
+    rw (fault, hart) (c.report.new.errors, c.report.ensures, refl)

@@ -1,15 +1,14 @@
-use Rattle.std.proofs.Common.{rules, codes}
-use Rattle.evm_streams.specs.Writes.{Took, TookPrefix}
-use Rattle.evm_messages.specs.Diagnostic.{diagnostic_text}
-use Rattle.evm_messages.proofs.Messages.{writes_then, writes_failed, written}
+use Rattle.std.proofs.Common.{rules}
+use Rattle.evm_messages.specs.Diagnostic.{TookWords, TookPart}
+use Rattle.evm_messages.proofs.Messages.{line_then, line_failed, written}
 use Rattle.evm_messages.proofs.diagnostic.write_diagnostic_line.Goals as goal
 
 pub returns-in-Ok : goal.returns-in-Ok
 returns-in-Ok g c =
-    let took : Took g.E.Sink.takes c.args.errors.now (diagnostic_text c.args.diagnostic) c.write_diagnostic.new.errors = search rules in
-    writes_then _ _ _ _ (diagnostic_text c.args.diagnostic) (codes "\n") _ took (written _ _ _ _ _ c.write_all.ensures)
+    let took : TookWords g.E.Sink.takes c.args.errors.now c.write_diagnostic.new.errors = search rules in
+    line_then _ _ _ _ _ took (written _ _ _ _ _ c.write_all.ensures)
 
 pub returns-in-Err : goal.returns-in-Err
 returns-in-Err g c =
-    let failed : TookPrefix g.E.Sink.takes c.args.errors.now (diagnostic_text c.args.diagnostic) c.write_diagnostic.new.errors = search rules in
-    writes_failed _ _ _ (diagnostic_text c.args.diagnostic) (codes "\n") failed
+    let failed : TookPart g.E.Sink.takes c.args.errors.now c.write_diagnostic.new.errors = search rules in
+    line_failed _ _ _ failed

@@ -2,7 +2,7 @@ use Rattle.std.proofs.Common.{rules, [], ◌∷◌, ◌+◌, ◌-◌, ◌/◌, �
 use Rattle.evm_streams.specs.Writes.{Took, TookPrefix}
 use Rattle.evm_text.specs.Written.{numeral}
 use Rattle.evm_messages.proofs.Messages.{writes_then, writes_failed, written, numeral_small, numeral_large}
-use Rattle.evm_messages.proofs.diagnostic.+write_decimal.Goals as goal
+use Rattle.evm_messages.proofs.number.+write_decimal.Goals as goal
 
 pub returns-then-number-lt10 : goal.returns-then-number-lt10
 returns-then-number-lt10 g t c = rw (numeral_small c.args.behind c.args.number c.if-number-lt10.true) (written _ _ _ _ _ c.write_all.ensures)
