@@ -4,6 +4,7 @@
 
 mod callers;
 mod devices;
+mod faults;
 mod headline;
 mod mutexes;
 mod no_interrupt_lost;
@@ -14,12 +15,14 @@ mod parts;
 mod rules;
 mod safe_and_total;
 mod steps;
+mod waking;
 
 pub use callers::a_call_changes_of_its_task_what_the_table_says;
 pub use devices::{
     a_load_touches_whatever_its_register, a_register_has_one_address,
     a_tick_changes_devices_by_their_kinds, an_unanswered_access_faults, device_kinds_never_change,
 };
+pub use faults::a_fault_takes_its_task_in_band_or_ends_it;
 pub use headline::{a_machine_is_its_journals_replay, a_run_may_be_cut_anywhere};
 pub use mutexes::{
     a_mutex_passes_to_the_first_waiter, a_rank_is_never_below_its_own,
@@ -58,3 +61,4 @@ pub use safe_and_total::{
     a_machine_is_as_it_was_booted, counts_never_wrap, sizes_never_change, the_clock_is_its_ticks,
 };
 pub use steps::{a_single_step_changes_only, a_step_changes_only};
+pub use waking::a_weak_task_wakes_in_band;
