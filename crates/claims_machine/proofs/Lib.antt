@@ -1,3 +1,5 @@
+pub mod Asking
+pub mod Faulting
 pub mod Leads
 pub mod Lines
 pub mod Moved

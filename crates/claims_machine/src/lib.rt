@@ -35,7 +35,7 @@ pub use no_interrupt_lost::{
     what_is_received_comes_to_a_stage,
 };
 pub use notices::{
-    a_step_makes_one_notice_at_most, no_other_event_makes_a_notice, notices_are_few,
+    a_step_makes_one_notice_at_most, a_task_that_asks_has_its_notice, no_other_event_makes_a_notice, notices_are_few,
 };
 pub use objects::{
     a_task_that_does_not_wait_has_no_deadline, a_task_that_waits_for_an_event_owns_no_mutex,

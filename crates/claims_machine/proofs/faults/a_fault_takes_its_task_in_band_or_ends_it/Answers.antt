@@ -1,31 +1,21 @@
 use Rattle.std.proofs.Common.{◌≡◌, ℕ, zero, suc, List, Bool, true, false, Option, Some, None, length, refl, ap, sym, ◌∙◌}
-use Rattle.std.specs.Prelude.{slice_get, option_map, is_none, if◌then◌else◌}
-use Rattle.evm_isa.specs.Decoded.{decoded}
-use Rattle.evm_isa.specs.declared.inst.Inst.{Inst}
-use Rattle.evm_isa.specs.declared.inst.LoadOp.{LoadOp}
-use Rattle.evm_exec.specs.Does.{does}
-use Rattle.evm_exec.specs.Memory.{width_of_load}
-use Rattle.evm_exec.specs.declared.hart.Hart.{Hart}
-use Rattle.evm_exec.specs.declared.outcome.Effect.{Effect}
-use Rattle.evm_exec.specs.declared.outcome.Effect.TheVariants.{Load, Store, Misaligned}
+use Rattle.std.specs.Prelude.{slice_get, option_map, if◌then◌else◌}
 use Rattle.law_ranks.specs.Boosts.{is_number}
 use Rattle.evm_model.proofs.Lists.{change-here, change-elsewhere, change-cases}
-use Rattle.evm_model.specs.Devices.{Accessed}
 use Rattle.evm_model.specs.Good.{is_ready}
-use Rattle.evm_model.specs.Instructions.{fault, finish_load, finish_store, finish, execute_inst, execute_word, execute}
+use Rattle.evm_model.specs.Instructions.{fault, execute}
 use Rattle.evm_model.specs.Lists.{change}
-use Rattle.evm_model.specs.Memory.{fetch, read, write}
+use Rattle.evm_model.specs.Memory.{fetch}
 use Rattle.evm_model.specs.Mutexes.{owner}
 use Rattle.evm_model.specs.Notices.{asks_for, notify}
 use Rattle.evm_model.specs.Passing.{hand_over_to, hand_over, hand_over_below, end_task}
 use Rattle.evm_model.specs.Pipes.{set_stall}
 use Rattle.evm_model.specs.Ranks.{is_oob_ready}
 use Rattle.evm_model.specs.Settle.{is_oob, is_oob_task}
-use Rattle.evm_model.specs.State.{Board, Parts, on_parts}
+use Rattle.evm_model.specs.State.{Parts}
 use Rattle.evm_model.specs.Tasks.{demote, restamp, set_state, leave_in_band}
 use Rattle.evm_model.specs.Waits.{first_waiter, wake}
 use Rattle.evm_model.specs.declared.fault.Fault.{Fault}
-use Rattle.evm_model.specs.declared.fault.Fault.TheVariants.{Misaligned as Misaligned_target, Fetch as Bad_fetch, Illegal, Load as Bad_load, Store as Bad_store}
 use Rattle.evm_model.specs.declared.notice.NoticeKind.{NoticeKind}
 use Rattle.evm_model.specs.declared.notice.NoticeKind.TheVariants.{DemotedByFault}
 use Rattle.evm_model.specs.declared.processor.Processor.{Processor}
@@ -33,37 +23,9 @@ use Rattle.evm_model.specs.declared.stage.Stage.TheVariants.{InBand, OutOfBand}
 use Rattle.evm_model.specs.declared.task.Task.{Task}
 use Rattle.evm_model.specs.declared.task.TaskState.TheVariants.{InReady, Faulted}
 use Rattle.evm_model.specs.declared.task.Wait.TheVariants.{Lock}
-use Rattle.law_runs.specs.Noticing.{effect_faults, inst_faults, word_faults}
 use Rattle.law_runs.proofs.Owning.{hands_over_below}
+use Rattle.claims_machine.proofs.Faulting.{words}
 use Rattle.claims_machine.proofs.faults.a_fault_takes_its_task_in_band_or_ends_it.Goals as goal
-
--- ---- an instruction that faults
-module _ (c t : ℕ) (b : Board) where
-  abbrev Faults : Board → Type 0
-  Faults x = (f : Fault) × (x ≡ on_parts (fault c t f) b)
-
-  loads : (o : Option Accessed) (op : LoadOp) (rd : ℕ) → is_none o ≡ true → Faults (finish_load o op rd c t b)
-  loads None op rd e = (Bad_load, refl)
-  loads (Some access) op rd e = cc
-
-  stores : (o : Option Accessed) → is_none o ≡ true → Faults (finish_store o c t b)
-  stores None e = (Bad_store, refl)
-  stores (Some access) e = cc
-
-  effects : (effect : Effect) → effect_faults effect b.memory ≡ true → Faults (finish effect c t b)
-  unfolding finish
-  effects (Load op rd address) e = loads (read address (width_of_load op) b.memory) op rd e
-  effects (Store width address value) e = stores (write address width value b.memory) e
-  effects Misaligned e = (Misaligned_target, refl)
-  effects _ e = cc
-
-  insts : (o : Option Inst) (hart : Hart) → inst_faults o hart b.memory ≡ true → Faults (execute_inst o hart c t b)
-  insts None hart e = (Illegal, refl)
-  insts (Some inst) hart e = effects (does inst hart.regs hart.pc) e
-
-  words : (o : Option ℕ) (hart : Hart) → word_faults o hart b.memory ≡ true → Faults (execute_word o hart c t b)
-  words None hart e = (Bad_fetch, refl)
-  words (Some word) hart e = insts (decoded word) hart e
 
 pub returns-clause-only : goal.returns-clause-only
 unfolding execute
