@@ -1,5 +1,7 @@
 pub mod Asking
+pub mod Beginning
 pub mod Faulting
+pub mod Lasting
 pub mod Leads
 pub mod Lines
 pub mod Moved
@@ -9,6 +11,7 @@ pub mod Others
 pub mod Ranking
 pub mod Reached
 pub mod Settled
+pub mod Settling
 pub mod Stepped
 pub mod Touched
 pub mod Waiting

@@ -61,4 +61,7 @@ pub use safe_and_total::{
     a_machine_is_as_it_was_booted, counts_never_wrap, sizes_never_change, the_clock_is_its_ticks,
 };
 pub use steps::{a_single_step_changes_only, a_step_changes_only};
-pub use waking::a_weak_task_wakes_in_band;
+pub use waking::{
+    a_wait_begins_with_a_fresh_stamp, a_wait_for_a_line_or_a_timer_has_no_deadline,
+    a_weak_task_wakes_in_band, a_yield_and_a_spent_slice_give_a_fresh_stamp,
+};
