@@ -12,6 +12,7 @@ pub mod Ranking
 pub mod Reached
 pub mod Settled
 pub mod Settling
+pub mod Signalling
 pub mod Stepped
 pub mod Touched
 pub mod Waiting

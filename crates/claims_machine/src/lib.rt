@@ -43,7 +43,7 @@ pub use objects::{
     each_timer_is_within_its_bound, timers_expire_by_number, waits_end_by_deadline_then_by_number,
 };
 pub use order::{
-    a_task_that_ends_passes_its_mutexes_by_number, lines_are_played_in_rising_order,
+    a_broadcast_leaves_no_waiter, a_task_that_ends_passes_its_mutexes_by_number, lines_are_played_in_rising_order,
     waiters_of_a_line_wake_by_number,
 };
 pub use parts::{
