@@ -306,9 +306,6 @@ module _ (c t : ℕ) (k : Parts) (task : Task) (there : slice_get k.tasks t ≡ 
 
 -- ---- an instruction
 module _ (c t : ℕ) (b : Board) (task : Task) (there : slice_get b.parts.tasks t ≡ Some task) (ready : is_ready task.state ≡ true) (x : Hart) (has : slice_get b.parts.harts t ≡ Some x) where
-
-
-
   faulted : (f : Fault) → Begun b.parts.stamps t (fault c t f b.parts)
   faulted f = faults b.parts.stamps t c b.parts (omega arith) (rests c t b.parts task there ready) f
 

@@ -35,7 +35,8 @@ pub use no_interrupt_lost::{
     what_is_received_comes_to_a_stage,
 };
 pub use notices::{
-    a_step_makes_one_notice_at_most, a_task_that_asks_has_its_notice, no_other_event_makes_a_notice, notices_are_few,
+    a_step_makes_one_notice_at_most, a_task_that_asks_has_its_notice,
+    no_other_event_makes_a_notice, notices_are_few,
 };
 pub use objects::{
     a_task_that_does_not_wait_has_no_deadline, a_task_that_waits_for_an_event_owns_no_mutex,
@@ -43,8 +44,8 @@ pub use objects::{
     each_timer_is_within_its_bound, timers_expire_by_number, waits_end_by_deadline_then_by_number,
 };
 pub use order::{
-    a_broadcast_leaves_no_waiter, a_task_that_ends_passes_its_mutexes_by_number, lines_are_played_in_rising_order,
-    waiters_of_a_line_wake_by_number,
+    a_broadcast_leaves_no_waiter, a_task_that_ends_passes_its_mutexes_by_number,
+    lines_are_played_in_rising_order, waiters_of_a_line_wake_by_number,
 };
 pub use parts::{
     a_command_changes_one_place, a_raise_puts_its_line_on_the_wire, a_register_keeps_its_number,
