@@ -13,7 +13,7 @@ use Rattle.evm_lines.specs.declared.TheConstants.{LINES}
 use Rattle.evm_model.proofs.Lists.{change-here}
 use Rattle.evm_model.specs.Calls.{answered, return_weak, is_weak_oob, finish_call, ask_oob, call_of, call_on, call_stage, call}
 use Rattle.evm_model.specs.Commands.{is_set, tick}
-use Rattle.evm_model.specs.Harts.{A7, answer, argument}
+use Rattle.evm_model.specs.Harts.{answer, argument}
 use Rattle.evm_model.specs.Instructions.{fault, finish, execute_inst, execute_word, execute}
 use Rattle.evm_model.specs.Locks.{lock_known, lock, try_known, try_lock, unlock_known, unlock}
 use Rattle.evm_model.specs.Memory.{fetch}
@@ -25,7 +25,7 @@ use Rattle.evm_model.specs.Profiles.{offered}
 use Rattle.evm_model.specs.Ranks.{is_oob_ready}
 use Rattle.evm_model.specs.Rows.{run, step_hart, step_current, step_wire, step_pipe, step_processor, step}
 use Rattle.evm_model.specs.Settle.{current, current_of, is_oob, is_oob_task, settle, settle_and_nudge}
-use Rattle.evm_model.specs.State.{Board, Memory, Notices, Parts, on_hart, on_parts, on_processor}
+use Rattle.evm_model.specs.State.{Board, Notices, Parts, on_hart, on_parts, on_processor}
 use Rattle.evm_model.specs.Tasks.{demote, restamp, set_policy, set_slice, set_state}
 use Rattle.evm_model.specs.Waits.{begin_wait, wake}
 use Rattle.evm_model.specs.declared.call.Call.{Call}

@@ -1,6 +1,6 @@
 -- A task that waits after what it does has a fresh stamp, and no deadline where it waits for a line or a timer.
-use Rattle.std.proofs.Common.{◌≡◌, ℕ, ◌+◌, ◌≤◌, List, Bool, true, false, not, ◌&&◌, Option, Some, None, ◌⊎◌, inl, inr, refl, ap, sym, ◌∙◌, arith}
-use Rattle.std.specs.Prelude.{slice_get, option_map, is_none, length, nat_le, nat_lt, ◌==◌, if◌then◌else◌}
+use Rattle.std.proofs.Common.{◌≡◌, ℕ, ◌≤◌, List, Bool, true, false, not, ◌&&◌, Option, Some, None, refl, ap, sym, ◌∙◌, arith}
+use Rattle.std.specs.Prelude.{slice_get, is_none, nat_le, nat_lt, ◌==◌, if◌then◌else◌}
 use Rattle.evm_exec.specs.Does.{does}
 use Rattle.evm_exec.specs.Memory.{loaded_value, width_of_load}
 use Rattle.evm_exec.specs.Registers.{register_of}
@@ -10,7 +10,7 @@ use Rattle.evm_exec.specs.declared.outcome.Effect.TheVariants.{Next, Load, Store
 use Rattle.evm_isa.specs.Decoded.{decoded}
 use Rattle.evm_isa.specs.declared.inst.Inst.{Inst}
 use Rattle.evm_isa.specs.declared.inst.LoadOp.{LoadOp}
-use Rattle.evm_model.specs.Calls.{answered, ask_oob, call_known, call_of, call_on, call_stage, call, finish_call, is_weak_oob, perform, return_weak}
+use Rattle.evm_model.specs.Calls.{answered, ask_oob, call_known, call_of, call_on, call_stage, call, is_weak_oob, perform, return_weak}
 use Rattle.evm_model.specs.Deadlines.{sleep_until}
 use Rattle.evm_model.specs.Devices.{Accessed, raise_line}
 use Rattle.evm_model.specs.Events.{begin_event_wait, event_wait_known, event_wait_unless, event_wait_with, event_wait, has_other, holding_refusal}
@@ -19,13 +19,12 @@ use Rattle.evm_model.specs.Good.{is_ready, is_waiting}
 use Rattle.evm_model.specs.Harts.{A7, advance, answer, argument, set_pc, set_register}
 use Rattle.evm_model.specs.InBandCalls.{exit, wait_line_unless, wait_line}
 use Rattle.evm_model.specs.Instructions.{fault, stop, finish_load, finish_store, finish, execute_inst, execute_word, execute}
-use Rattle.evm_model.specs.Lists.{change}
 use Rattle.evm_model.specs.Locks.{cycle_refusal, lock_again, lock_known, lock_other, lock_owned, lock, take_mutex}
 use Rattle.evm_model.specs.Memory.{fetch, read, write}
 use Rattle.evm_model.specs.Mutexes.{owns_any}
-use Rattle.evm_model.specs.Notices.{asks_for, is_refused, notify, notify_refused}
+use Rattle.evm_model.specs.Notices.{asks_for, is_refused, notify}
 use Rattle.evm_model.specs.OobCalls.{migrate, move_task, moved, switch_in_band}
-use Rattle.evm_model.specs.Passing.{end_task, hand_over, hand_over_to, hand_over_below}
+use Rattle.evm_model.specs.Passing.{end_task, hand_over, hand_over_to}
 use Rattle.evm_model.specs.Profiles.{line_count, offered}
 use Rattle.evm_model.specs.Semaphores.{sem_get_known, sem_get}
 use Rattle.evm_model.specs.Settle.{is_oob}

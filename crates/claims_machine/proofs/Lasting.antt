@@ -1,5 +1,5 @@
 -- What each task keeps through a walk, where a task that wakes is ready, and one that waits again has a fresh stamp and no deadline.
-use Rattle.std.proofs.Common.{◌≡◌, ℕ, ◌+◌, ◌≤◌, List, [], ◌∷◌, ◌++◌, Bool, true, false, not, ◌&&◌, Option, Some, None, ◌⊎◌, inl, inr, refl, ap, sym, ◌∙◌, arith}
+use Rattle.std.proofs.Common.{◌≡◌, ℕ, ◌≤◌, List, Bool, true, false, not, ◌&&◌, Option, Some, None, ◌⊎◌, inl, inr, refl, ap, sym, ◌∙◌, arith}
 use Rattle.std.specs.Prelude.{slice_get, option_map}
 use Rattle.std.proofs.lemmas.Bool.{cases_eq}
 use Rattle.evm_model.proofs.Lists.{change-here, change-elsewhere, slice_get-push}
@@ -14,9 +14,6 @@ use Rattle.evm_model.specs.Waits.{begin_wait, wake, ready_on, stage_of_wait, wok
 use Rattle.evm_model.specs.declared.stage.Stage.{Stage}
 use Rattle.evm_model.specs.declared.stage.Stage.TheVariants.{InBand, OutOfBand}
 use Rattle.evm_model.specs.declared.task.Task.{Task}
-use Rattle.evm_model.specs.declared.task.TaskState.{TaskState}
-use Rattle.evm_model.specs.declared.task.TaskState.TheVariants.{Waits}
-use Rattle.evm_model.specs.declared.task.Wait.{Wait}
 use Rattle.law_walk.proofs.Sizes.{of_spend, walk_least}
 use Rattle.law_walk.proofs.Walk.{Actor, Does, task, stamps, turns, awaits_event, spends, migrates, overruns, wakes, requeues, schedules, adds, Walk, start, next}
 

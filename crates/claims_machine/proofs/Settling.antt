@@ -1,5 +1,5 @@
 -- What holds of tasks after a step and its settling: those that wait, and those that wait without a deadline.
-use Rattle.std.proofs.Common.{◌≡◌, ℕ, suc, ◌+◌, ◌*◌, ◌≤◌, List, [], ◌∷◌, Bool, true, false, not, ◌&&◌, Option, Some, None, ◌⊎◌, inl, inr, refl, ap, sym, ◌∙◌, arith}
+use Rattle.std.proofs.Common.{◌≡◌, ℕ, suc, ◌≤◌, List, [], ◌∷◌, Bool, true, false, not, ◌&&◌, Option, Some, None, ◌⊎◌, inl, inr, refl, ap, sym, ◌∙◌, arith}
 use Rattle.std.specs.Prelude.{slice_get, option_map, length, if◌then◌else◌}
 use Rattle.std.proofs.lemmas.Bool.{cases_eq}
 use Rattle.evm_exec.specs.declared.hart.Hart.{Hart}
@@ -18,9 +18,9 @@ use Rattle.evm_model.specs.Refusals.{board_refusal, is_full}
 use Rattle.evm_model.specs.Replay.{apply, apply_unless, left_by, replay}
 use Rattle.evm_model.specs.Rows.{row, run, single_step, step_hart, step_current, step_wire, step_pipe, step_processor, step}
 use Rattle.evm_model.specs.Settle.{current, current_of, settle_and_nudge}
-use Rattle.evm_model.specs.State.{Board, Parts, State, on_hart, on_parts, on_processor}
+use Rattle.evm_model.specs.State.{Board, Parts, State, on_parts, on_processor}
 use Rattle.evm_model.specs.declared.event.Answer.{Answer}
-use Rattle.evm_model.specs.declared.event.Answer.TheVariants.{Hit, Stopped}
+use Rattle.evm_model.specs.declared.event.Answer.TheVariants.{Stopped}
 use Rattle.evm_model.specs.declared.event.Event.TheVariants.{Step, Tick, Raise, Bell, Stop, Go, StepI, SetReg, SetPc, Poke, Break, Unbreak}
 use Rattle.evm_model.specs.declared.limits.TheConstants.{DEVICE_LIMIT}
 use Rattle.evm_model.specs.declared.processor.Processor.{Processor}

@@ -1,11 +1,11 @@
 -- All that wait for an event wait for it no more after as many signals as there are tasks.
 use Rattle.std.proofs.Common.{◌≡◌, ℕ, zero, suc, ◌+◌, ◌-◌, ◌<◌, ◌≤◌, List, [], ◌∷◌, ◌++◌, Bool, true, false, Option, Some, None, length, ◌⊎◌, inl, inr, refl, ap, sym, ◌∙◌, arith}
-use Rattle.std.specs.Prelude.{slice_get, option_map, if◌then◌else◌}
+use Rattle.std.specs.Prelude.{slice_get, option_map}
 use Rattle.std.specs.List.{Contains}
 use Rattle.std.proofs.lemmas.Bool.{cases_eq}
 use Rattle.std.proofs.lemmas.List.Elements.{Contains-append_left, Contains-push, Contains-push_cases}
 use Rattle.evm_model.proofs.Lists.{change-here, change-elsewhere, length-change}
-use Rattle.evm_model.specs.Events.{bound, bound_of, reacquire_from, reacquire_of, reacquire, signal_to, signal_first, signal_rounds}
+use Rattle.evm_model.specs.Events.{bound, bound_of, reacquire_from, reacquire, signal_to, signal_first, signal_rounds}
 use Rattle.evm_model.specs.Lists.{change}
 use Rattle.evm_model.specs.Mutexes.{held_by, owner}
 use Rattle.evm_model.specs.Ranks.{rank, stamp}
@@ -21,7 +21,7 @@ use Rattle.evm_model.specs.declared.task.Wait.TheVariants.{Event, Reacquire}
 use Rattle.law_walk.proofs.Waiters.{first-member}
 use Rattle.law_rules.proofs.Firsts.{first-none}
 use Rattle.law_runs.proofs.Sooner.{how_many, few, no_many, one_less}
-use Rattle.claims_machine.specs.Signalled.{FirstByFirst, none, next}
+use Rattle.claims_machine.specs.Waiting.{FirstByFirst, none, next}
 
 -- ---- a task waits for the event no more
 record Leaves (e t : ℕ) (k x : Parts) : Type 0 where

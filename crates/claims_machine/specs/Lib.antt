@@ -3,6 +3,5 @@ pub mod Devices
 pub mod Noticed
 pub mod Raising
 pub mod Reached
-pub mod Signalled
 pub mod Steps
 pub mod Waiting

@@ -16,7 +16,7 @@ ghost use Rattle.evm_model.specs.declared.task.Task.{Task};
 ghost use Rattle.evm_model.specs.declared.task.TaskState.{TaskState};
 ghost use Rattle.evm_model.specs.declared.task.Wait.{Wait};
 ghost use Rattle.claims_machine.specs.Reached.{Reached};
-ghost use Rattle.claims_machine.specs.Signalled.{FirstByFirst};
+ghost use Rattle.claims_machine.specs.Waiting.{FirstByFirst};
 
 /// After every boot whose numbers are inside their limits, with an image loaded or none, and every list of events the lines
 /// of each wire and of each log rise, and those of the logs still do where a Step has received a line by either stage. A

@@ -1,16 +1,16 @@
-use Rattle.std.proofs.Common.{◌≡◌, ℕ, ◌+◌, ◌≤◌, Option, Some, None, inl, inr, refl, ap, sym, ◌∙◌, arith}
-use Rattle.std.specs.Prelude.{Result, Ok}
+use Rattle.std.proofs.Common.{◌≡◌, ℕ, ◌+◌, ◌≤◌, Option, Some, None, inl, inr, ap, sym, ◌∙◌, arith}
+use Rattle.std.specs.Prelude.{Ok}
 use Rattle.evm_model.specs.Event.{Event}
 use Rattle.evm_model.specs.Notices.{keep}
 use Rattle.evm_model.specs.Ranks.{is_oob_ready}
 use Rattle.evm_model.specs.Refusals.{refusal}
 use Rattle.evm_model.specs.Replay.{accept, apply, apply_unless}
 use Rattle.evm_model.specs.Rows.{row}
-use Rattle.evm_model.specs.State.{Board, Notices, Parts, State}
+use Rattle.evm_model.specs.State.{Board, Notices, State}
 use Rattle.evm_model.specs.declared.event.Answer.{Answer}
 use Rattle.evm_model.specs.declared.event.Event.TheVariants.{Step}
 use Rattle.evm_model.specs.declared.refusal.Refusal.{Refusal}
-use Rattle.claims_machine.specs.Noticed.{AddsAlarm, AddsNotice, OneNotice}
+use Rattle.claims_machine.specs.Noticed.{OneNotice}
 use Rattle.claims_machine.proofs.Asking.{asked_gets}
 use Rattle.claims_machine.proofs.Reached.{good}
 use Rattle.claims_machine.proofs.Whole.{changes_only}

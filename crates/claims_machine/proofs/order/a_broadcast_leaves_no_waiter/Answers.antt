@@ -1,11 +1,10 @@
-use Rattle.std.proofs.Common.{◌≡◌, ℕ, ◌≤◌, ◌-◌, List, Bool, true, false, Option, Some, None, length, inl, inr, refl, ap, sym, ◌∙◌, arith, eq-eqb}
+use Rattle.std.proofs.Common.{◌≡◌, ℕ, List, true, false, Option, Some, None, length, inl, inr, refl, ap, sym, ◌∙◌, arith, eq-eqb}
 use Rattle.std.specs.Prelude.{slice_get}
 use Rattle.std.proofs.lemmas.Option.{slice_get_within}
 use Rattle.evm_model.specs.Events.{bound_of, broadcast, signal_known, signal_rounds}
 use Rattle.evm_model.specs.State.{Parts}
 use Rattle.evm_model.specs.Waits.{awaits_task, awaits, is_wait_for}
 use Rattle.evm_model.specs.declared.task.Task.{Task}
-use Rattle.evm_model.specs.declared.task.TaskState.{TaskState}
 use Rattle.evm_model.specs.declared.task.TaskState.TheVariants.{Waits}
 use Rattle.evm_model.specs.declared.task.Wait.TheVariants.{Event}
 use Rattle.law_walk.proofs.Waiters.{wait_is}
