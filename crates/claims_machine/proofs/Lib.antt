@@ -1,3 +1,7 @@
+pub mod Asking
+pub mod Beginning
+pub mod Faulting
+pub mod Lasting
 pub mod Leads
 pub mod Lines
 pub mod Moved
@@ -7,6 +11,8 @@ pub mod Others
 pub mod Ranking
 pub mod Reached
 pub mod Settled
+pub mod Settling
+pub mod Signalling
 pub mod Stepped
 pub mod Touched
 pub mod Waiting

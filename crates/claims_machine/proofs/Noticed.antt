@@ -122,7 +122,7 @@ module _ (k : Parts) (ps : List Processor) where
   unlock_moved t m =
       outcome_stays NotPermitted NotOwner t (unlock_known (slice_get k.mutexes m) t m moved) ∙ (unlocks t m k ps (slice_get k.mutexes m)).same ∙ sym (outcome_stays NotPermitted NotOwner t (unlock_known (slice_get k.mutexes m) t m k))
 
-  cause_moved : (runs : Option ℕ) (c t : ℕ) (memory : Memory) (kind : NoticeKind) (bit : ℕ) → NoticeBy runs c t memory k kind bit → NoticeBy runs c t memory moved kind bit
+  pub cause_moved : (runs : Option ℕ) (c t : ℕ) (memory : Memory) (kind : NoticeKind) (bit : ℕ) → NoticeBy runs c t memory k kind bit → NoticeBy runs c t memory moved kind bit
   cause_moved runs c t memory _ _ (by_call hart about number) = by_call hart about number
   cause_moved runs c t memory _ _ (by_fault hart has faults) = by_fault hart has faults
   cause_moved runs c t memory _ _ (by_lock hart about number answers) = by_lock hart about number (lock_moved c t _ _ ∙ answers)

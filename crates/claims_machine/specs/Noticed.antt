@@ -55,6 +55,11 @@ pub record AddsAlarm (runs : Option ℕ) (old : Parts) (new : Notices) : Type 0 
   pub kept : new.kept ≡ drop (length (old.notices.kept ++ notice ∷ []) - NOTICE_LIMIT) (old.notices.kept ++ notice ∷ [])
   pub total : new.total ≡ old.notices.total + 1
 
+-- they have this one more, the last of them; the last 64 are kept
+pub record HasNotice (notice : Notice) (old new : Notices) : Type 0 where
+  pub kept : new.kept ≡ drop (length (old.kept ++ notice ∷ []) - NOTICE_LIMIT) (old.kept ++ notice ∷ [])
+  pub total : new.total ≡ old.total + 1
+
 -- they stand, or there is one more: by what the current task does, or by the watchdog
 abbrev pub OneNotice : Option ℕ → ℕ → Memory → Parts → Notices → Type 0
 OneNotice runs c memory old new = (new ≡ old.notices) ⊎ AddsNotice runs c memory old new ⊎ AddsAlarm runs old new

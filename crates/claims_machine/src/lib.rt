@@ -4,6 +4,7 @@
 
 mod callers;
 mod devices;
+mod faults;
 mod headline;
 mod mutexes;
 mod no_interrupt_lost;
@@ -14,12 +15,14 @@ mod parts;
 mod rules;
 mod safe_and_total;
 mod steps;
+mod waking;
 
 pub use callers::a_call_changes_of_its_task_what_the_table_says;
 pub use devices::{
     a_load_touches_whatever_its_register, a_register_has_one_address,
     a_tick_changes_devices_by_their_kinds, an_unanswered_access_faults, device_kinds_never_change,
 };
+pub use faults::a_fault_takes_its_task_in_band_or_ends_it;
 pub use headline::{a_machine_is_its_journals_replay, a_run_may_be_cut_anywhere};
 pub use mutexes::{
     a_mutex_passes_to_the_first_waiter, a_rank_is_never_below_its_own,
@@ -32,7 +35,8 @@ pub use no_interrupt_lost::{
     what_is_received_comes_to_a_stage,
 };
 pub use notices::{
-    a_step_makes_one_notice_at_most, no_other_event_makes_a_notice, notices_are_few,
+    a_step_makes_one_notice_at_most, a_task_that_asks_has_its_notice,
+    no_other_event_makes_a_notice, notices_are_few,
 };
 pub use objects::{
     a_task_that_does_not_wait_has_no_deadline, a_task_that_waits_for_an_event_owns_no_mutex,
@@ -40,8 +44,8 @@ pub use objects::{
     each_timer_is_within_its_bound, timers_expire_by_number, waits_end_by_deadline_then_by_number,
 };
 pub use order::{
-    a_task_that_ends_passes_its_mutexes_by_number, lines_are_played_in_rising_order,
-    waiters_of_a_line_wake_by_number,
+    a_broadcast_leaves_no_waiter, a_task_that_ends_passes_its_mutexes_by_number,
+    lines_are_played_in_rising_order, waiters_of_a_line_wake_by_number,
 };
 pub use parts::{
     a_command_changes_one_place, a_raise_puts_its_line_on_the_wire, a_register_keeps_its_number,
@@ -58,3 +62,7 @@ pub use safe_and_total::{
     a_machine_is_as_it_was_booted, counts_never_wrap, sizes_never_change, the_clock_is_its_ticks,
 };
 pub use steps::{a_single_step_changes_only, a_step_changes_only};
+pub use waking::{
+    a_wait_begins_with_a_fresh_stamp, a_wait_for_a_line_or_a_timer_has_no_deadline,
+    a_weak_task_wakes_in_band, a_yield_and_a_spent_slice_give_a_fresh_stamp,
+};

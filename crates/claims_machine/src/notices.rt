@@ -1,5 +1,6 @@
 //! Notices: who gets them, what makes none, and how many there are.
-ghost use Rattle.std.specs.Prelude.{◌≡◌, ◌≢◌, ◌<◌, ◌≤◌, ◌⊎◌, ℕ, Result, length};
+ghost use Rattle.std.specs.Prelude.{◌≡◌, ◌≢◌, ◌<◌, ◌≤◌, ◌⊎◌, ℕ, Option, Result, slice_get, length};
+ghost use Rattle.std.specs.Int.{bit_at};
 ghost use Rattle.evm_exec.specs.Registers.{register_of};
 ghost use Rattle.evm_exec.specs.declared.hart.Hart.{Hart};
 ghost use Rattle.evm_exec.specs.declared.outcome.Effect.{Effect};
@@ -11,8 +12,11 @@ ghost use Rattle.evm_model.specs.declared.boot.Boot.{Boot};
 ghost use Rattle.evm_model.specs.declared.event.Answer.{Answer};
 ghost use Rattle.evm_model.specs.declared.event.Event.TheVariants as Event;
 ghost use Rattle.evm_model.specs.declared.limits.TheConstants.{NOTICE_LIMIT};
+ghost use Rattle.evm_model.specs.declared.notice.NoticeKind.{NoticeKind};
+ghost use Rattle.evm_model.specs.declared.task.Task.{Task};
+ghost use Rattle.evm_model.specs.declared.task.TaskState.{TaskState};
 ghost use Rattle.claims_machine.specs.About.{IsAbout};
-ghost use Rattle.claims_machine.specs.Noticed.{AddsAlarm, OneNotice};
+ghost use Rattle.claims_machine.specs.Noticed.{AddsAlarm, HasNotice, NoticeBy, OneNotice};
 ghost use Rattle.claims_machine.specs.Reached.{Reached};
 
 /// After every boot whose numbers are inside their limits, with devices and an image loaded or none, and every list of events:
@@ -28,6 +32,19 @@ pub fn a_step_makes_one_notice_at_most()
         IsAbout (current c old.board.parts) task hart Effect.Call old.board.parts.harts old.board.memory →
         14 < register_of hart.regs 17 → register_of hart.regs 17 ≢ 36 → register_of hart.regs 17 ≢ 37 → register_of hart.regs 17 ≢ 38 →
         (new.board.parts.notices ≡ old.board.parts.notices) ⊎ AddsAlarm (current c old.board.parts) old.board.parts new.board.parts.notices }
+{
+    law_rules::rules_hold();
+    law_runs::events_change_only(); // of a Step
+}
+
+/// Likewise: where a Step runs the task that was current, and that task is out-of-band, asks for such by its mode, and gives a
+/// reason (a call or a fault takes it in-band, its lock or trylock answers -35, its unlock answers -1), the task has its
+/// notice: the last one, of that kind, at that tick.
+pub fn a_task_that_asks_has_its_notice()
+    ensures { (boot : Boot) (old new : State) (c t bit : ℕ) (kind : NoticeKind) (task : Task) → Reached boot old → apply old (Event.Step c) ≡ Result.Ok (new, Answer.Ran t) →
+        slice_get old.board.parts.tasks t ≡ Option.Some task → task.state ≡ TaskState.OobReady → bit_at task.mode.bits bit ≡ 1 →
+        NoticeBy (current c old.board.parts) c t old.board.memory old.board.parts kind bit →
+        HasNotice (record { tick = old.board.parts.ticks; task = t; kind = kind }) old.board.parts.notices new.board.parts.notices }
 {
     law_rules::rules_hold();
     law_runs::events_change_only(); // of a Step

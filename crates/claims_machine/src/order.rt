@@ -1,7 +1,8 @@
 //! In which order lines are played, tasks wake and mutexes pass on: over lists of numbers that rise.
-ghost use Rattle.std.specs.Prelude.{◌≡◌, ◌↔◌, ℕ, List, false, Option, slice_get};
+ghost use Rattle.std.specs.Prelude.{◌≡◌, ◌≢◌, ◌↔◌, ℕ, List, false, Option, slice_get};
 ghost use Rattle.std.specs.List.{Contains, fold};
 ghost use Rattle.std.specs.List.Sorted.{IsStrictlyIncreasing};
+ghost use Rattle.evm_model.specs.Events.{broadcast};
 ghost use Rattle.evm_model.specs.Passing.{hand_over, end_task};
 ghost use Rattle.evm_model.specs.Pipes.{Pipe, play, receive, set_stall};
 ghost use Rattle.evm_model.specs.Settle.{play_oob, play_in_band, run_best, run_in_band, settle_oob, turn_in_band};
@@ -15,6 +16,7 @@ ghost use Rattle.evm_model.specs.declared.task.Task.{Task};
 ghost use Rattle.evm_model.specs.declared.task.TaskState.{TaskState};
 ghost use Rattle.evm_model.specs.declared.task.Wait.{Wait};
 ghost use Rattle.claims_machine.specs.Reached.{Reached};
+ghost use Rattle.claims_machine.specs.Waiting.{FirstByFirst};
 
 /// After every boot whose numbers are inside their limits, with an image loaded or none, and every list of events the lines
 /// of each wire and of each log rise, and those of the logs still do where a Step has received a line by either stage. A
@@ -51,3 +53,13 @@ pub fn a_task_that_ends_passes_its_mutexes_by_number()
 {
     law_runs::goes_in_order(); // the clause passes
 }
+
+/// A broadcast of an event that has a mutex ends the waits of all tasks that wait for the event, and of no others: one after
+/// another each that is the first of those left, by rank, then by stamp, reacquires the mutex, with the answer 0. Nobody waits
+/// for the event afterwards.
+pub fn a_broadcast_leaves_no_waiter()
+    ensures { (e m : ℕ) (k : Parts) → slice_get k.events e ≡ Option.Some (Option.Some m) → (waiters : List ℕ)
+        × ((t : ℕ) → Contains waiters t ↔ ((task : Task) × ((slice_get k.tasks t ≡ Option.Some task) × (task.state ≡ TaskState.Waits (Wait.Event e)))))
+        × FirstByFirst e k waiters (broadcast e k).0
+        × ((t : ℕ) (task : Task) → slice_get (broadcast e k).0.tasks t ≡ Option.Some task → task.state ≢ TaskState.Waits (Wait.Event e)) }
+{}

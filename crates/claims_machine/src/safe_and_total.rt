@@ -12,7 +12,7 @@ ghost use Rattle.evm_model.specs.declared.counts.Counts.{Counts};
 ghost use Rattle.evm_model.specs.Event.{Event};
 ghost use Rattle.evm_model.specs.declared.limits.TheConstants.{DEVICE_LIMIT, TASK_LIMIT};
 ghost use Rattle.evm_model.specs.declared.mutex.Mutex.{Mutex};
-ghost use Rattle.claims_machine.specs.Reached.{AreSmall, Ran};
+ghost use Rattle.claims_machine.specs.Reached.{AreSmall, Ran, Reached};
 
 /// Whatever happens to a machine, it has as many processors, pipes and bytes of RAM afterwards, at least as many tasks and
 /// harts, and the boot numbers that it had; where there were 64 tasks at the most there are, and where each had a
@@ -63,7 +63,7 @@ pub fn a_machine_is_as_it_was_booted()
 
 /// After every boot whose numbers are inside their limits, with an image loaded or none, and every list of events
 /// the journal is within its capacity, and the ticks, every count of each of the 64 lines and how often each mutex is
-/// locked are below 2^29, so none has wrapped.
+/// locked are below 2^29, so none has wrapped. The next stamp, which is above all that were given, is below 2^35.
 pub fn counts_never_wrap()
     ensures journal { (boot : Boot) (s : State) → bad_boot boot ≡ false → Ran boot s → length s.journal ≤ boot.capacity }
     ensures ticks { (boot : Boot) (s : State) → bad_boot boot ≡ false → Ran boot s → s.board.parts.ticks < 2 ^ 29 }
@@ -79,9 +79,12 @@ pub fn counts_never_wrap()
         slice_get pipe.counts l ≡ Option.Some n → AreSmall n }
     ensures holds { (boot : Boot) (s : State) → bad_boot boot ≡ false → Ran boot s → (m : ℕ) (mutex : Mutex) →
         slice_get s.board.parts.mutexes m ≡ Option.Some mutex → mutex.count < 2 ^ 29 }
+    // .. and with words that each device may have, and an entry at a multiple of 4
+    ensures stamps { (boot : Boot) (s : State) → Reached boot s → s.board.parts.stamps < 2 ^ 35 }
 {
     law_runs::counts_fit();
     law_runs::stays_as_booted();
+    law_rules::rules_hold(); // the field stamps
 }
 
 /// After every boot whose numbers are inside their limits, with an image loaded or none, and every list of events the

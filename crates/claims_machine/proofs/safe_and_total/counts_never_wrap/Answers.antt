@@ -1,8 +1,9 @@
 use Rattle.std.proofs.Common.{ap, arith}
 use Rattle.evm_model.specs.declared.boot.Boot.{Boot}
 use Rattle.law_runs.specs.Fit.{CountsFit, HoldsFit}
+use Rattle.law_rules.proofs.States.{few_events}
 use Rattle.law_runs.specs.Kept.{IsAsBooted}
-use Rattle.claims_machine.proofs.Reached.{ran, small}
+use Rattle.claims_machine.proofs.Reached.{good, ran, small}
 use Rattle.claims_machine.proofs.safe_and_total.counts_never_wrap.Goals as goal
 
 pub returns-clause-journal : goal.returns-clause-journal
@@ -35,3 +36,8 @@ returns-clause-holds c boot s fits r m mutex there =
     let fit = ran CountsFit boot s r (c.counts_fit.ensures.booted r.devices boot fits r.few) (λ byte entry. c.counts_fit.ensures.loaded r.devices byte entry boot fits r.few) in
     let held = (ran HoldsFit boot s r (c.counts_fit.ensures.holds r.devices boot r.few) (λ byte entry. c.counts_fit.ensures.holds_loaded r.devices byte entry boot r.few)).count m mutex there in
     omega (arith, held, fit.small)
+
+pub returns-clause-stamps : goal.returns-clause-stamps
+returns-clause-stamps c boot s reached =
+    let rules = good c.rules_hold.ensures.booted c.rules_hold.ensures.loaded boot s reached in
+    omega (arith, rules.stamps, few_events s rules)
