@@ -30,6 +30,8 @@ install: all
 	for it in completions/_*; do install -D -m 644 $$it $(SHARE)/zsh/site-functions/$${it##*/}; done
 	for it in completions/*.fish; do install -D -m 644 $$it $(SHARE)/fish/vendor_completions.d/$${it##*/}; done
 	mkdir -p $(SHARE)/vardozek && cp -r kit $(SHARE)/vardozek/
+	# the kit looks for the programs in ../bin, as here
+	ln -sfn ../../bin $(SHARE)/vardozek/bin
 
 # one tarball of what `make install` installs, named by version
 dist: all
