@@ -31,12 +31,16 @@ hidden_get (suc n) zero events le = absurd (omega arith)
 hidden_get (suc n) (suc k) [] le = refl
 hidden_get (suc n) (suc k) (e ∷ events) le = hidden_get n k events (omega arith)
 
+-- 1 if so
+abbrev one_if : Bool → ℕ
+one_if b = cond b 1 0
+
 hidden_count : (such : Event → Bool) → such Tick ≡ false → (n : ℕ) (events : List Event) → count_by such (hidden n events) ≡ count_by such (drop n events)
 hidden_count such off zero events = refl
 hidden_count such off (suc n) [] = refl
 hidden_count such off (suc n) (e ∷ events) =
-    let none : cond (such Tick) 1 0 ≡ 0 = ap (λ b. cond b 1 0) off in
-    let more : count_by such (Tick ∷ hidden n events) ≡ cond (such Tick) 1 0 + count_by such (hidden n events) = sum_by-cons (λ x. cond (such x) 1 0) Tick (hidden n events) in
+    let none : one_if (such Tick) ≡ 0 = ap one_if off in
+    let more : count_by such (Tick ∷ hidden n events) ≡ one_if (such Tick) + count_by such (hidden n events) = sum_by-cons (λ x. one_if (such x)) Tick (hidden n events) in
     omega (arith, more, none, hidden_count such off n events)
 
 -- no port was made before the journal had n events
