@@ -1,7 +1,9 @@
 //! The program is started or ended, and when the machine boots anew for that.
 
 ghost use Rattle.std.specs.Prelude.{◌≡◌, ◌++◌, ℕ, List, OnOk, Option};
+ghost use Rattle.std.specs.List.{list_all};
 ghost use Rattle.gdb_answers.specs.Starting.{are_digits, asks_boot, begin_text, booted_text, has_reply, loads_program, may_boot, payload_boots, starting_text, waits_for_boot, writes_whole};
+ghost use Rattle.gdb_packets.specs.Hexadecimal.{is_hexadecimal};
 ghost use Rattle.gdb_tape.specs.Tape.{KeepsTape};
 
 use crate::answering::MALFORMED;
@@ -96,13 +98,18 @@ pub(crate) fn answer_start(
     }
 }
 
+// Whether each of them is a hexadecimal digit.
+fn are_hexadecimal(digits: &[u8]) -> bool
+    ensures { result ≡ list_all is_hexadecimal digits.now }
+{
+    digits.iter().all(|digit| is_hexadecimal(*digit))
+}
+
 // Whether these are the digits of a number of bytes.
 fn are_digits(count: u64, digits: &[u8]) -> bool
     ensures { result ≡ are_digits count digits.now }
 {
-    digits.len() % 2 == 0
-        && (digits.len() / 2) as u64 == count
-        && digits.iter().all(|digit| is_hexadecimal(*digit))
+    digits.len() % 2 == 0 && (digits.len() / 2) as u64 == count && are_hexadecimal(digits)
 }
 
 // Whether a command that writes has as many bytes as it says, and they are all in RAM. Of others nothing is asked.
