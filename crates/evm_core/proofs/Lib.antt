@@ -1,3 +1,4 @@
+pub mod Blocks
 pub mod Booted
 pub mod Commits
 pub mod Journaled
