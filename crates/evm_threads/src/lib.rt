@@ -9,3 +9,6 @@ mod writing;
 pub use evm_shared::Blanks;
 pub use outcome::RunEnding;
 pub use running::threads_to;
+
+#[cfg(test)]
+mod tests;

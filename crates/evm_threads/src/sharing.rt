@@ -25,8 +25,8 @@ const WORKERS: u8 = 2;
 /// The line that is rung at each processor before the first turn.
 const LINE: u8 = 8;
 
-// A gate that is always open.
-struct OpenGate;
+/// A gate that is always open.
+pub(crate) struct OpenGate;
 
 impl Gate for OpenGate {
     fn before(&self, _cpu: u8, _turn: u32) {}
@@ -34,8 +34,8 @@ impl Gate for OpenGate {
     fn after(&self, _cpu: u8, _steps: u32) {}
 }
 
-// A worker for each of the two processors.
-fn workers_of<S: Ledger, B: Ledger, T: Ledger>(
+/// A worker for each of the two processors.
+pub(crate) fn workers_of<S: Ledger, B: Ledger, T: Ledger>(
     alloc: Global,
     bells: &Bells,
     mut ports: Vec<Port<S, B, T>>,
@@ -58,8 +58,8 @@ fn workers_of<S: Ledger, B: Ledger, T: Ledger>(
     Some(workers)
 }
 
-// The ports of workers that are done.
-fn ports_of<S: Ledger, B: Ledger, T: Ledger>(
+/// The ports of workers that are done.
+pub(crate) fn ports_of<S: Ledger, B: Ledger, T: Ledger>(
     alloc: Global,
     mut workers: Vec<Worker<S, B, T>>,
 ) -> Option<Vec<Port<S, B, T>>>

@@ -2,8 +2,6 @@
 #![tactic(auto)]
 
 #[cfg(test)]
-mod journals;
-#[cfg(test)]
 mod shared;
 #[cfg(test)]
 mod tests;

@@ -104,29 +104,6 @@ fn seen<S: Ledger, B: Ledger, T: Ledger>(
     })
 }
 
-// A play on a machine under the lock, which is not its own.
-fn act<
-    O: Origin + Send + Sync,
-    S: Ledger + Send + Sync,
-    B: Ledger + Send + Sync,
-    T: Ledger + Send + Sync,
-    R: Threads + Wait + Sync,
->(
-    rt: &R,
-    alloc: Global,
-    shared: &Shared<Pins, O, S, B, T>,
-    ports: Vec<Port<S, B, T>>,
-    which: Play,
-) -> Option<Played<S, B, T>> {
-    match which {
-        Play::ThousandRings => rings::play(rt, alloc, shared, ports, 1),
-        Play::TwoTakers => rings::play(rt, alloc, shared, ports, 0),
-        Play::OneLine => bell::play(rt, alloc, shared, ports),
-        Play::TenTurns => workers::play(rt, alloc, shared, ports, false),
-        Play::Breakpoint => workers::play(rt, alloc, shared, ports, true),
-    }
-}
-
 // A play on a machine that is shared.
 fn play_on<
     O: Origin + Send + Sync,
@@ -146,7 +123,13 @@ fn play_on<
         ports,
         right,
         bells,
-    } = act(rt, alloc, &shared, ports, which)?;
+    } = match which {
+        Play::ThousandRings => rings::play(rt, alloc, &shared, ports, 1)?,
+        Play::TwoTakers => rings::play(rt, alloc, &shared, ports, 0)?,
+        Play::OneLine => bell::play(rt, alloc, &shared, ports)?,
+        Play::TenTurns => workers::play(rt, alloc, &shared, ports, false)?,
+        Play::Breakpoint => workers::play(rt, alloc, &shared, ports, true)?,
+    };
     seen(shared.finish(ports).ok()?, right, bells)
 }
 

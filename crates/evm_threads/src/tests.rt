@@ -2,12 +2,16 @@
 
 ghost use Rattle.std.specs.Prelude.{◌≡◌, ◌<◌, ◌≤◌, length};
 
+mod meeting;
+mod plays;
+mod rows;
+
+use crate::{Blanks, RunEnding, threads_to};
 use evm_devs::{AnyDevice, Console, MailRing, Pins};
 use evm_elf::{read_image, write_bytes};
 use evm_image::Image;
 use evm_journal::{Answer, Devices, Event, EventLine, Journal, Machine, read_history};
 use evm_streams::{Cause, WriteFault};
-use evm_threads::{Blanks, RunEnding, threads_to};
 use std::alloc::Global;
 use std::io::{self, Error, ErrorKind, Write};
 use std::process::Abort;
