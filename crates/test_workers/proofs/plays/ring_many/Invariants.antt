@@ -1,5 +1,0 @@
-use Rattle.std.proofs.Common.{◌≡◌}
-use Rattle.test_workers.proofs.plays.ring_many.Given as goal
-
-abbrev pub invariant-loop : goal.invariant-loop
-invariant-loop l = record { bells : l.ringer.bells ≡ l.bells.id }
