@@ -1,7 +1,7 @@
 # The programs. `make quick` builds evltool in two minutes, without the proofs; `make` proves all that stands below the programs first.
 PROGRAMS := evltool vardozek
 PREFIX ?= /usr/local
-VERSION := $(shell sed -n 's/.*const VERSION: &str = "\([^"]*\)".*/\1/p' crates/command_lines/src/answering.rt)
+VERSION := $(shell sed -n 's/.*const VERSION: &str = "\([^"]*\)".*/\1/p' crates/evm_host/src/answering.rt)
 SOURCES := crates.txt $(shell find crates -name out -prune -o -type f -not -path '*/must-fail/*' -not -path '*/wrong-bodies/*' -not -path '*/data/*' -print)
 SHARE := $(DESTDIR)$(PREFIX)/share
 

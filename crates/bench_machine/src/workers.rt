@@ -13,7 +13,7 @@ use evm_core::{Burst, Committed, Machine};
 use evm_devs::Pins;
 use evm_elf::{read_image, write_bytes};
 use evm_exec::Hart;
-use evm_image::Image;
+use evm_ram::Image;
 use evm_shared::{Blanks, Gate, Origin, Port, Shared, Worker};
 use std::alloc::Global;
 use std::marker::Brand;

@@ -45,11 +45,11 @@ use Rattle.evm_model.specs.declared.stage.Stage.{Stage}
 use Rattle.evm_model.specs.declared.stage.Stage.TheVariants.{InBand}
 use Rattle.evm_model.specs.declared.task.Task.{Task}
 use Rattle.evm_model.specs.declared.task.TaskState.TheVariants.{InReady}
-use Rattle.law_walk.proofs.Playing.{unnoted}
-use Rattle.law_walk.proofs.Rows.{SETTLING_STAMPS, settles, nudges}
-use Rattle.law_walk.proofs.Sizes.{of_spend}
-use Rattle.law_walk.proofs.Unchanged.{lock_rests, try_rests, unlock_rests}
-use Rattle.law_walk.proofs.Walk.{Actor, Does, spends, notes, alarms, Walk, start, next}
+use Rattle.law_rules.proofs.PlayingWalks.{unnoted}
+use Rattle.law_rules.proofs.RowWalks.{SETTLING_STAMPS, settles, nudges}
+use Rattle.law_rules.proofs.Sizes.{of_spend}
+use Rattle.law_rules.proofs.Unchanged.{lock_rests, try_rests, unlock_rests}
+use Rattle.law_rules.proofs.Walk.{Actor, Does, spends, notes, alarms, Walk, start, next}
 use Rattle.law_rules.proofs.Keeps.{passed-current}
 use Rattle.law_runs.proofs.Silent.{call_is, outcome_stays}
 use Rattle.law_runs.specs.Noticing.{word_faults}

@@ -14,8 +14,8 @@ use Rattle.evm_model.specs.Waits.{begin_wait, wake, ready_on, stage_of_wait, wok
 use Rattle.evm_model.specs.declared.stage.Stage.{Stage}
 use Rattle.evm_model.specs.declared.stage.Stage.TheVariants.{InBand, OutOfBand}
 use Rattle.evm_model.specs.declared.task.Task.{Task}
-use Rattle.law_walk.proofs.Sizes.{of_spend, walk_least}
-use Rattle.law_walk.proofs.Walk.{Actor, Does, task, stamps, turns, awaits_event, spends, migrates, overruns, wakes, requeues, schedules, adds, Walk, start, next}
+use Rattle.law_rules.proofs.Sizes.{of_spend, walk_least}
+use Rattle.law_rules.proofs.Walk.{Actor, Does, task, stamps, turns, awaits_event, spends, migrates, overruns, wakes, requeues, schedules, adds, Walk, start, next}
 
 -- ---- a task that is changed once, or twice
 mapped : (f : Task → Task) (o : Option Task) (y : Task) → option_map f o ≡ Some y → (x : Task) × (o ≡ Some x) × (y ≡ f x)

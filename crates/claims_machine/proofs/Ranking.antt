@@ -1,9 +1,9 @@
 -- Who waits for whom, who boosts whom, and what a rank is one of.
 use Rattle.std.proofs.Common.{◌≡◌, ℕ, zero, suc, ◌+◌, ◌<◌, List, Option, Some, None, Bool, true, false, slice_get, length, ◌⊎◌, inl, inr, refl, ap, ◌∙◌, arith}
 use Rattle.std.specs.Prelude.{nat_le, if◌then◌else◌}
-use Rattle.law_ranks.specs.Boosts.{is_number, greater, greatest, HasHeight}
-use Rattle.law_ranks.proofs.Greatest.{boosts-is}
-use Rattle.law_ranks.proofs.Links.{fewer-keeps}
+use Rattle.evm_model.specs.Boosts.{is_number, greater, greatest, HasHeight}
+use Rattle.evm_model.proofs.Greatest.{boosts-is}
+use Rattle.evm_model.proofs.Links.{fewer-keeps}
 use Rattle.evm_model.specs.Good.{AreLocks}
 use Rattle.evm_model.specs.Mutexes.{owner, owner_of, owner_for, lock_of, lock_of_task, lock_at, waits_on, heir_by, heir_of, heir_for, boosts, ceiling_owner_by, ceiling_owner_of, ceiling_owner, ceiling, ceiling_by, ceiling_of}
 use Rattle.evm_model.specs.declared.limits.TheConstants.{TASK_LIMIT}

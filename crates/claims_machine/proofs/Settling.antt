@@ -30,9 +30,9 @@ use Rattle.evm_model.specs.declared.task.Task.{Task}
 use Rattle.evm_model.specs.declared.task.TaskState.{TaskState}
 use Rattle.evm_model.specs.declared.task.TaskState.TheVariants.{Waits}
 use Rattle.evm_model.specs.declared.task.Wait.{Wait}
-use Rattle.law_walk.proofs.Rows.{acting, executes, row_walks}
-use Rattle.law_walk.proofs.Sizes.{walk_least}
-use Rattle.law_walk.proofs.Walk.{Actor, Walk, start, unchanged}
+use Rattle.law_rules.proofs.RowWalks.{acting, executes, row_walks}
+use Rattle.law_rules.proofs.Sizes.{walk_least}
+use Rattle.law_rules.proofs.Walk.{Actor, Walk, start, unchanged}
 use Rattle.law_rules.proofs.Keeps.{passed-current}
 use Rattle.law_runs.proofs.Executing.{walk_current}
 use Rattle.claims_machine.proofs.Asking.{settler, settles_only}

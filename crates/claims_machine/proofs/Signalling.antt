@@ -18,7 +18,7 @@ use Rattle.evm_model.specs.declared.task.Task.{Task}
 use Rattle.evm_model.specs.declared.task.TaskState.{TaskState}
 use Rattle.evm_model.specs.declared.task.TaskState.TheVariants.{Waits}
 use Rattle.evm_model.specs.declared.task.Wait.TheVariants.{Event, Reacquire}
-use Rattle.law_walk.proofs.Waiters.{first-member}
+use Rattle.law_rules.proofs.Waiters.{first-member}
 use Rattle.law_rules.proofs.Firsts.{first-none}
 use Rattle.law_runs.proofs.Sooner.{how_many, few, no_many, one_less}
 use Rattle.claims_machine.specs.Waiting.{FirstByFirst, none, next}

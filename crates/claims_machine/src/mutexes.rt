@@ -15,7 +15,7 @@ ghost use Rattle.evm_model.specs.declared.mutex.Protocol.{Protocol};
 ghost use Rattle.evm_model.specs.declared.task.Task.{Task};
 ghost use Rattle.evm_model.specs.declared.task.TaskState.{TaskState};
 ghost use Rattle.evm_model.specs.declared.task.Wait.{Wait};
-ghost use Rattle.law_ranks.specs.Boosts.{greatest, walk};
+ghost use Rattle.evm_model.specs.Boosts.{greatest, walk};
 ghost use Rattle.claims_machine.specs.Reached.{Reached};
 ghost use Rattle.claims_machine.specs.Waiting.{WaitsForMutex};
 

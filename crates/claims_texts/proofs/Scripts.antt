@@ -1,7 +1,7 @@
 -- Each line of a script drives its machine, so that the journal of what it leaves is one that replays.
 use Rattle.std.proofs.Common.{◌≡◌, ℕ, ◌+◌, ◌<◌, List, [], ◌∷◌, Option, Some, None, refl}
 use Rattle.std.specs.Prelude.{Result, Ok, Err}
-use Rattle.evm_image.specs.Images.{Contents}
+use Rattle.evm_ram.specs.Images.{Contents}
 use Rattle.evm_serve.specs.evm_history.Runs.{line_of_event}
 use Rattle.evm_serve.specs.evm_history.declared.event_line.EventLine.TheVariants as events
 use Rattle.evm_serve.specs.evm_journal.EventLine.{HasEventLine}

@@ -8,7 +8,7 @@ use Rattle.std.proofs.lemmas.Option.{same_Some}
 use Rattle.evm_elf.specs.evm_asm.Assembled.{Assembled, IsWorded, StandsIn}
 use Rattle.evm_elf.specs.evm_asm.declared.output.ProgramLine.{ProgramLine}
 use Rattle.evm_elf.specs.Files.{image_of_bytes}
-use Rattle.evm_image.specs.Images.{Loaded, byte_at, range_start}
+use Rattle.evm_ram.specs.Images.{Loaded, byte_at, range_start}
 use Rattle.evm_ram.specs.Ram.{bytes_at}
 use Rattle.evm_ram.specs.declared.ram.TheConstants.{BASE}
 use Rattle.evm_model.specs.declared.refusal.Refusal.{Refusal}

@@ -3,7 +3,7 @@ use Rattle.std.specs.Prelude.{◌≡◌, ℕ, ◌<◌, ◌≤◌, List, Some, Re
 use Rattle.evm_elf.specs.evm_asm.Assembled.{Assembled, program_of}
 use Rattle.evm_elf.specs.evm_asm.declared.output.ProgramLine.{ProgramLine}
 use Rattle.evm_elf.specs.Files.{image_of_bytes}
-use Rattle.evm_image.specs.Images.{range_start}
+use Rattle.evm_ram.specs.Images.{range_start}
 use Rattle.evm_ram.specs.Ram.{bytes_at}
 use Rattle.evm_model.specs.declared.refusal.Refusal.{Refusal}
 use Rattle.evm_model.specs.declared.refusal.Refusal.TheVariants.{BadAddress}

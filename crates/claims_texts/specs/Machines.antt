@@ -2,7 +2,7 @@
 use Rattle.std.specs.Prelude.{◌≡◌, ℕ, List, Ok}
 use Rattle.evm_serve.specs.evm_journal.Journal.{journal_text}
 use Rattle.evm_serve.specs.evm_core.Load.{load}
-use Rattle.evm_image.specs.Images.{Contents}
+use Rattle.evm_ram.specs.Images.{Contents}
 use Rattle.evm_model.specs.Replay.{start, IsReplayOf}
 use Rattle.evm_model.specs.State.{State}
 use Rattle.evm_serve.specs.evm_debug.Summary.{summary_text}

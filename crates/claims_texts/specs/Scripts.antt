@@ -1,6 +1,6 @@
 -- What a script leaves behind.
 use Rattle.std.specs.Prelude.{◌≡◌, ℕ, ◌+◌, List, [], ◌∷◌, ◌++◌, Option, Some, None, codes}
-use Rattle.evm_image.specs.Images.{Contents}
+use Rattle.evm_ram.specs.Images.{Contents}
 use Rattle.evm_model.specs.State.{State}
 use Rattle.evm_serve.specs.evm_journal.Journal.{journal_text}
 use Rattle.evm_serve.specs.evm_debug.LineReading.{line_at}

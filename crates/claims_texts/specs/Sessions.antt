@@ -1,6 +1,6 @@
 -- The lines of a session, run as a script with the same devices and image: each is done, and the machine is the session's.
 use Rattle.std.specs.Prelude.{◌≡◌, List, Some}
-use Rattle.evm_image.specs.Images.{Contents}
+use Rattle.evm_ram.specs.Images.{Contents}
 use Rattle.evm_model.specs.Devices.{Attached}
 use Rattle.claims_texts.specs.Scripts.{machine_left}
 use Rattle.evm_serve.specs.RunOptions.{image_options}

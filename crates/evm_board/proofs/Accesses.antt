@@ -5,7 +5,7 @@ use Rattle.evm_lines.specs.declared.TheConstants.{LINES}
 use Rattle.evm_model.specs.Bounds.{COUNT_LIMIT, PER_SETTLING, STAMPS_PER_EVENT, HasRoom, HasStamps, PipesUpTo}
 use Rattle.evm_model.specs.Devices.{raise_line}
 use Rattle.evm_model.specs.State.{Parts, on_hart}
-use Rattle.law_walk.proofs.Walk.{AreFew}
+use Rattle.law_rules.proofs.Walk.{AreFew}
 use Rattle.law_rules.proofs.Bounded.{AreWithin, within-more, within-raise}
 use Rattle.evm_board.proofs.Rooms.{room-raise}
 

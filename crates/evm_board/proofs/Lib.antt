@@ -10,4 +10,3 @@ pub mod TickedDevices
 pub mod Ticks
 pub mod Touches
 pub use Rattle.law_rules.proofs as law_rules
-pub use Rattle.law_walk.proofs as law_walk

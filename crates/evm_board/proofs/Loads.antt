@@ -5,7 +5,7 @@ use Rattle.std.specs.List.{list_any, AllByRecursion}
 use Rattle.std.proofs.lemmas.Bool.{cases_Bool, and_parts, and_from, or_parts, leb-true, ltb-true, le-leb, lt-ltb}
 use Rattle.std.proofs.lemmas.Bool.Decides.{nat_tests}
 use Rattle.std.proofs.lemmas.List.{get_or_past}
-use Rattle.evm_image.specs.Images.{Loaded, Contents, Covers, covers, byte_in, byte_at, IsFree, IsApart, IsSound, range_start}
+use Rattle.evm_ram.specs.Images.{Loaded, Contents, Covers, covers, byte_in, byte_at, IsFree, IsApart, IsSound, range_start}
 use Rattle.evm_ram.specs.Laws.{no_bytes, overwritten-nothing, length-overwritten, get_or-overwritten_before, get_or-overwritten_within, get_or-overwritten_behind}
 use Rattle.evm_ram.specs.Ram.{is_inside, overwritten, poke_at}
 use Rattle.evm_ram.specs.declared.ram.TheConstants.{BASE}

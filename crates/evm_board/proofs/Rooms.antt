@@ -12,15 +12,15 @@ use Rattle.evm_model.specs.State.{Parts}
 use Rattle.evm_model.specs.Tasks.{demote, restamp, set_state}
 use Rattle.evm_model.specs.declared.fault.Fault.{Fault}
 use Rattle.evm_model.specs.declared.limits.TheConstants.{PROCESSOR_LIMIT}
-use Rattle.law_walk.proofs.Calls.{walks_call}
-use Rattle.law_walk.proofs.Counted.{walk_counted}
-use Rattle.law_walk.proofs.Notices.{one_more, walk_notes}
-use Rattle.law_walk.proofs.Rows.{faults}
-use Rattle.law_walk.proofs.Sets.{walk_pipes}
-use Rattle.law_walk.proofs.Sizes.{walk_most, walk_ticks}
-use Rattle.law_walk.proofs.Walk.{Actor, ArePipes as AllPipes, AreFew, Walk, start, unchanged}
+use Rattle.law_rules.proofs.Calls.{walks_call}
+use Rattle.law_rules.proofs.Counted.{walk_counted}
+use Rattle.law_rules.proofs.NoticeWalks.{one_more, walk_notes}
+use Rattle.law_rules.proofs.RowWalks.{faults}
+use Rattle.law_rules.proofs.Sets.{walk_pipes}
+use Rattle.law_rules.proofs.Sizes.{walk_most, walk_ticks}
+use Rattle.law_rules.proofs.Walk.{Actor, ArePipes as AllPipes, AreFew, Walk, start, unchanged}
 use Rattle.law_rules.proofs.Bounded.{EachIsPipe, AreWithin, within-more, within-receive}
-use Rattle.law_walk.proofs.Counted.{PipesUpTo-more}
+use Rattle.law_rules.proofs.Counted.{PipesUpTo-more}
 
 -- task t acts on processor c: it raises and chooses nothing
 abbrev acts : ℕ → ℕ → Actor

@@ -13,7 +13,7 @@ use Rattle.evm_model.specs.State.{Board, Parts}
 use Rattle.evm_model.proofs.Lists.{same_elements}
 use Rattle.law_rules.proofs.Counting.{on_raise-up}
 use Rattle.evm_settle.proofs.Nudges.{changed_below, changed_below-more, changed_below-none, changed_below-reached, changed_below-unreached}
-use Rattle.law_walk.proofs.Counted.{PipesUpTo-more}
+use Rattle.law_rules.proofs.Counted.{PipesUpTo-more}
 use Rattle.evm_board.specs.Ticks.{ticked_once}
 use Rattle.evm_board.proofs.Accesses.{line-ticks}
 

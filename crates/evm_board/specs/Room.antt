@@ -1,6 +1,6 @@
 -- Which images RAM has room for.
 use Rattle.std.specs.Prelude.{ℕ, ◌+◌, ◌==◌, nat_lt, Bool, ◌&&◌, not}
-use Rattle.evm_image.specs.Images.{Loaded}
+use Rattle.evm_ram.specs.Images.{Loaded}
 use Rattle.evm_ram.specs.declared.ram.TheConstants.{BASE}
 
 -- a byte of the segment lies past RAM of this size

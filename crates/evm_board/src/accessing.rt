@@ -10,7 +10,7 @@ ghost use Rattle.evm_model.specs.Harts.{advance, set_register};
 ghost use Rattle.evm_model.specs.Instructions.{finish};
 ghost use Rattle.evm_model.specs.Settle.{settle_and_nudge};
 ghost use Rattle.evm_model.specs.State.{on_hart, on_parts};
-ghost use Rattle.law_walk.specs.Few.{AreFew};
+ghost use Rattle.law_rules.specs.Few.{AreFew};
 
 use crate::access::Access;
 use crate::board::Board;

@@ -6,7 +6,7 @@ ghost use Rattle.evm_model.specs.Settle.{settle_and_nudge};
 ghost use Rattle.evm_model.specs.State.{on_parts};
 ghost use Rattle.evm_board.specs.Steps.{IsRunning};
 ghost use Rattle.evm_board.specs.Stops.{follow};
-ghost use Rattle.law_walk.specs.Few.{AreFew};
+ghost use Rattle.law_rules.specs.Few.{AreFew};
 
 use crate::board::Board;
 use crate::quiet::stop_quietly;

@@ -1,14 +1,13 @@
 ghost use Rattle.std.specs.Prelude.{◌≡◌, ◌%◌, length, false};
 ghost use Rattle.std.specs.List.{list_any};
-ghost use Rattle.evm_image.specs.Images.{byte_at};
+ghost use Rattle.evm_ram.specs.Images.{byte_at};
 ghost use Rattle.evm_model.specs.Load.{load_board, bytes_from};
 ghost use Rattle.evm_board.specs.Room.{passes_ram};
 
 use crate::board::Board;
 use crate::memory::Memory;
 use evm_dev::Device;
-use evm_image::{Image, Segment};
-use evm_ram::BASE;
+use evm_ram::{BASE, Image, Segment};
 
 // Whether a byte of a segment lies past RAM of this many bytes.
 fn passes_ram(size: u64, segment: &Segment) -> bool

@@ -17,9 +17,9 @@ use Rattle.evm_model.specs.declared.task.TaskState.{TaskState}
 use Rattle.evm_model.specs.declared.task.TaskState.TheVariants.{InReady, OobReady, Waits, Exit, Faulted}
 use Rattle.evm_model.specs.declared.task.Wait.{Wait}
 use Rattle.evm_model.specs.declared.task.Wait.TheVariants.{Line, Lock, Reacquire, Semaphore, Event, Flags, Sleep, Timer}
-use Rattle.law_ranks.proofs.Greatest.{greatest-first, greatest-booster}
-use Rattle.law_ranks.proofs.Least.{greatest-least}
-use Rattle.law_ranks.specs.Boosts.{greatest}
+use Rattle.evm_model.proofs.Greatest.{greatest-first, greatest-booster}
+use Rattle.evm_model.proofs.Least.{greatest-least}
+use Rattle.evm_model.specs.Boosts.{greatest}
 use Rattle.evm_ready.proofs.Firsts.{first-below, first-member}
 use Rattle.evm_ready.specs.ListedRanks.{listed_rank}
 use Rattle.evm_wait.proofs.Awaited.{first-awaited}

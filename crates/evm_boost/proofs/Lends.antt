@@ -1,7 +1,7 @@
 -- One more mutex of a look at what a task's mutexes lend.
 use Rattle.std.proofs.Common.{◌≡◌, ℕ, ◌+◌, Option, refl, add-one}
 use Rattle.std.specs.Prelude.{if◌then◌else◌}
-use Rattle.law_ranks.specs.Boosts.{greater, greatest, is_number}
+use Rattle.evm_model.specs.Boosts.{greater, greatest, is_number}
 
 pub greatest-none : (boosts : ℕ → Option ℕ) (rank : ℕ → ℕ) (t first : ℕ) → greatest boosts rank t first 0 ≡ first
 unfolding greatest

@@ -8,9 +8,9 @@ use Rattle.evm_boost.proofs.Settled.{away, scheduled-settled, settling, sound-fa
 use Rattle.evm_boost.specs.Scatter.{class_rank_at}
 use Rattle.evm_boost.specs.Scheduled.{Scheduled, IsScheduled, AreSoundBoosts}
 use Rattle.evm_boost.specs.Settling.{entered_as, IsOpen, IsRelinked, IsSettling, fallen_owner, raised_heir, stamped}
-use Rattle.law_ranks.proofs.Mending.{link-covered, link-fewer}
-use Rattle.law_ranks.proofs.Relinks.{relink-keeps}
-use Rattle.law_ranks.specs.Mending.{no_task, with_task}
+use Rattle.evm_model.proofs.Mending.{link-covered, link-fewer}
+use Rattle.evm_model.proofs.Relinks.{relink-keeps}
+use Rattle.evm_model.specs.Mending.{no_task, with_task}
 use Rattle.evm_model.proofs.Lists.{change-elsewhere, change-here, length-change, same_elements}
 use Rattle.evm_model.specs.Lists.{change}
 use Rattle.evm_model.specs.Mutexes.{boosts, heir_for, lock_at, lock_of, lock_of_task, ceiling_owner, ceiling}
@@ -25,9 +25,9 @@ use Rattle.evm_model.specs.declared.task.Task.{Task}
 use Rattle.evm_model.specs.declared.task.TaskState.{TaskState}
 use Rattle.evm_model.specs.declared.task.TaskState.TheVariants.{InReady, OobReady, Waits, Exit, Faulted}
 use Rattle.evm_model.specs.declared.task.Wait.{Wait}
-use Rattle.law_ranks.proofs.Least.{greatest-links}
-use Rattle.law_ranks.proofs.Greatest.{greatest-first, greatest-same}
-use Rattle.law_ranks.specs.Boosts.{greatest, is_number}
+use Rattle.evm_model.proofs.Least.{greatest-links}
+use Rattle.evm_model.proofs.Greatest.{greatest-first, greatest-same}
+use Rattle.evm_model.specs.Boosts.{greatest, is_number}
 use Rattle.evm_ready.specs.ListedRanks.{listed_rank, rank_or_0}
 use Rattle.evm_ready.specs.Places.{ready_place}
 use Rattle.evm_ready.specs.declared.place.Place.{Place}

@@ -5,7 +5,7 @@ use Rattle.std.specs.Prelude.{◌==◌, ◌&&◌, not, option_map, slice_get, if
 use Rattle.std.proofs.lemmas.Bool.{cases_eq, ne_eqb}
 use Rattle.evm_model.proofs.Lists.{change-here, change-elsewhere, length-change}
 use Rattle.evm_model.specs.Lists.{change}
-use Rattle.law_ranks.specs.Boosts.{is_number}
+use Rattle.evm_model.specs.Boosts.{is_number}
 use Rattle.evm_model.specs.Mutexes.{freed, owner, owner_of, owns_below}
 use Rattle.evm_model.specs.declared.mutex.Mutex.{Mutex}
 

@@ -17,7 +17,7 @@ use Rattle.evm_model.proofs.Lists.{change-cases, change-elsewhere, change-here, 
 use Rattle.evm_model.specs.Lists.{change}
 use Rattle.evm_model.specs.Mutexes.{freed, held_by, owner, owner_of, owns_any, owns_below}
 use Rattle.evm_model.specs.declared.mutex.Mutex.{Mutex}
-use Rattle.law_ranks.specs.Boosts.{greater, greatest, is_number}
+use Rattle.evm_model.specs.Boosts.{greater, greatest, is_number}
 
 -- ---- the sets
 pub owned-same : (sets : List (List ℕ)) (owner other : ℕ → Option ℕ) → ((m : ℕ) → owner m ≡ other m) → AreOwned sets owner → AreOwned sets other

@@ -11,9 +11,9 @@ use Rattle.evm_boost.specs.Lent.{first_waiting}
 use Rattle.evm_boost.specs.Scatter.{class_rank_at}
 use Rattle.evm_boost.specs.Scheduled.{Scheduled, AreEntered, IsScheduled, AreSoundBoosts}
 use Rattle.evm_boost.specs.Settling.{IsCalm, BoostsNobody, RaisesNobody, IsSettling, fallen_owner}
-use Rattle.law_ranks.proofs.Least.{greatest-least, greatest-links}
-use Rattle.law_ranks.proofs.Mending.{link-fewer}
-use Rattle.law_ranks.specs.Mending.{no_task, with_task}
+use Rattle.evm_model.proofs.Least.{greatest-least, greatest-links}
+use Rattle.evm_model.proofs.Mending.{link-fewer}
+use Rattle.evm_model.specs.Mending.{no_task, with_task}
 use Rattle.evm_model.proofs.Lists.{change-elsewhere, change-here, length-change}
 use Rattle.evm_model.specs.Lists.{change}
 use Rattle.evm_model.specs.Mutexes.{boosts, heir_for, heir_of, heir_by, held_by, freed, lock_at, owner, owner_of, ceiling, ceiling_of, ceiling_by, ceiling_owner, ceiling_owner_of, ceiling_owner_by}
@@ -23,8 +23,8 @@ use Rattle.evm_model.specs.declared.mutex.Protocol.{Protocol}
 use Rattle.evm_model.specs.declared.mutex.Protocol.TheVariants.{Inheritance, Ceiling}
 use Rattle.evm_model.specs.declared.task.Task.{Task}
 use Rattle.evm_model.specs.declared.task.Wait.TheVariants.{Lock}
-use Rattle.law_ranks.proofs.Greatest.{boosts-is, greatest-booster, greatest-first, greatest-same}
-use Rattle.law_ranks.specs.Boosts.{greatest, is_number}
+use Rattle.evm_model.proofs.Greatest.{boosts-is, greatest-booster, greatest-first, greatest-same}
+use Rattle.evm_model.specs.Boosts.{greatest, is_number}
 use Rattle.evm_ready.specs.ListedRanks.{listed_rank}
 
 -- a mutex has the same protocol

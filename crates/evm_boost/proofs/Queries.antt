@@ -4,7 +4,7 @@ use Rattle.evm_boost.proofs.Lending.{first-waiting-is}
 use Rattle.evm_boost.proofs.Settled.{settled-scheduled}
 use Rattle.evm_boost.specs.Lent.{first_waiting}
 use Rattle.evm_boost.specs.Scheduled.{Scheduled, IsScheduled}
-use Rattle.law_ranks.proofs.Relinks.{nobody-falls}
+use Rattle.evm_model.proofs.Relinks.{nobody-falls}
 use Rattle.evm_model.specs.Mutexes.{boosts, heir_for, lock_at}
 use Rattle.evm_model.specs.Ranks as ranks
 use Rattle.evm_model.specs.Waits.{awaits}
@@ -12,8 +12,8 @@ use Rattle.evm_model.specs.declared.mutex.Mutex.{Mutex}
 use Rattle.evm_model.specs.declared.task.Task.{Task}
 use Rattle.evm_model.specs.declared.task.Wait.{Wait}
 use Rattle.evm_model.specs.declared.limits.TheConstants.{TASK_LIMIT}
-use Rattle.law_ranks.proofs.Greatest.{greatest-none}
-use Rattle.law_ranks.specs.Boosts.{greatest}
+use Rattle.evm_model.proofs.Greatest.{greatest-none}
+use Rattle.evm_model.specs.Boosts.{greatest}
 use Rattle.evm_ready.proofs.Firsts.{first-same}
 use Rattle.evm_ready.proofs.Placed.{best-placed, next-placed, any-placed}
 use Rattle.evm_ready.specs.ListedRanks.{listed_rank}

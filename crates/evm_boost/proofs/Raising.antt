@@ -4,8 +4,8 @@ use Rattle.std.specs.Prelude.{nat_lt, not, if◌then◌else◌, slice_set}
 use Rattle.std.proofs.Math.Nat.{eq-or-lt_of_le}
 use Rattle.std.proofs.lemmas.Bool.Decides.{eqb_tells, nat_tests}
 use Rattle.std.proofs.lemmas.List.{length-set}
-use Rattle.law_ranks.specs.Boosts.{greater, is_number, greatest, rank_after}
-use Rattle.law_ranks.proofs.Greatest.{greatest-same}
+use Rattle.evm_model.specs.Boosts.{greater, is_number, greatest, rank_after}
+use Rattle.evm_model.proofs.Greatest.{greatest-same}
 use Rattle.evm_model.specs.Mutexes.{ceiling_owner, ceiling, boosts, heir_for, lock_at}
 use Rattle.evm_model.specs.Ranks.{own_rank, rank}
 use Rattle.evm_model.specs.declared.limits.TheConstants.{TASK_LIMIT}

@@ -2,7 +2,7 @@
 use Rattle.std.proofs.Common.{◌≡◌, ℕ, zero, suc, ◌+◌, ◌-◌, ◌<◌, ◌≤◌, Option, Some, None, true, false, refl, sym, ◌∙◌, arith, eq-eqb}
 use Rattle.std.specs.Prelude.{◌==◌, if◌then◌else◌}
 use Rattle.std.proofs.lemmas.Bool.{ne_eqb}
-use Rattle.law_ranks.specs.Boosts.{reaches}
+use Rattle.evm_model.specs.Boosts.{reaches}
 use Rattle.evm_model.specs.declared.limits.TheConstants.{TASK_LIMIT}
 
 reaches-none : (waits : ℕ → Option ℕ) (t links : ℕ) → reaches waits t links None ≡ false

@@ -15,12 +15,12 @@ use Rattle.evm_model.specs.declared.mutex.Mutex.{Mutex}
 use Rattle.evm_model.specs.declared.mutex.Protocol.{Protocol}
 use Rattle.evm_model.specs.declared.mutex.Protocol.TheVariants.{Inheritance, Ceiling}
 use Rattle.evm_model.specs.declared.task.Task.{Task}
-use Rattle.law_ranks.proofs.Heights.{falls-low}
-use Rattle.law_ranks.proofs.Links.{fewer-keeps}
-use Rattle.law_ranks.proofs.Mending.{settled-are, are-settled, mended-here, mended-on, mended-none, changed-but, no-loop, walk-over}
-use Rattle.law_ranks.proofs.Relinks.{limit-more, free-keeps, way-more}
-use Rattle.law_ranks.specs.Boosts.{is_number, greatest, reaches, walk, Falls, IsSettledRank}
-use Rattle.law_ranks.specs.Mending.{no_task, with_task}
+use Rattle.evm_model.proofs.Heights.{falls-low}
+use Rattle.evm_model.proofs.Links.{fewer-keeps}
+use Rattle.evm_model.proofs.Mending.{settled-are, are-settled, mended-here, mended-on, mended-none, changed-but, no-loop, walk-over}
+use Rattle.evm_model.proofs.Relinks.{limit-more, free-keeps, way-more}
+use Rattle.evm_model.specs.Boosts.{is_number, greatest, reaches, walk, Falls, IsSettledRank}
+use Rattle.evm_model.specs.Mending.{no_task, with_task}
 use Rattle.evm_ready.specs.ListedRanks.{listed_rank, rank_or_0}
 
 -- ---- between schedules

@@ -4,7 +4,7 @@ use Rattle.evm_lines.specs.Lines.{all_lines}
 use Rattle.evm_lines.specs.declared.TheConstants.{LINES}
 use Rattle.evm_model.specs.Mutexes.{owner}
 use Rattle.evm_model.specs.declared.mutex.Mutex.{Mutex}
-use Rattle.law_ranks.specs.Boosts.{greater, is_number}
+use Rattle.evm_model.specs.Boosts.{greater, is_number}
 
 -- the mutexes that task t owns, in rising order; there are as many as lines
 abbrev pub owned_by : (ℕ → Option ℕ) → ℕ → List ℕ

@@ -1,6 +1,6 @@
 -- Lists of ranks: how they are filled, and raised by boosters.
 use Rattle.std.specs.Prelude.{◌≡◌, ℕ, zero, suc, ◌<◌, List, Option, Some, None, slice_get, slice_set, length}
-use Rattle.law_ranks.specs.Boosts.{greater}
+use Rattle.evm_model.specs.Boosts.{greater}
 use Rattle.evm_model.specs.Lists.{change}
 use Rattle.evm_model.specs.Mutexes.{ceiling_owner, ceiling, boosts}
 use Rattle.evm_model.specs.Ranks.{class_rank_of, rank}

@@ -5,7 +5,7 @@ use Rattle.evm_model.specs.Mutexes.{boosts}
 use Rattle.evm_model.specs.declared.limits.TheConstants.{TASK_LIMIT}
 use Rattle.evm_model.specs.declared.mutex.Mutex.{Mutex}
 use Rattle.evm_model.specs.declared.task.Task.{Task}
-use Rattle.law_ranks.specs.Boosts.{HasHeight}
+use Rattle.evm_model.specs.Boosts.{HasHeight}
 use Rattle.evm_ready.specs.Places.{ready_place}
 use Rattle.evm_ready.specs.declared.place.Place.{Place}
 use Rattle.evm_wait.specs.Waiters.{awaited}

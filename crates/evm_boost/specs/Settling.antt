@@ -11,8 +11,8 @@ use Rattle.evm_model.specs.declared.mutex.Mutex.{Mutex}
 use Rattle.evm_model.specs.declared.mutex.Protocol.TheVariants.{Inheritance}
 use Rattle.evm_model.specs.declared.task.Task.{Task}
 use Rattle.evm_model.specs.declared.task.Wait.TheVariants.{Lock}
-use Rattle.law_ranks.specs.Boosts.{reaches}
-use Rattle.law_ranks.specs.Mending.{IsSettledBut}
+use Rattle.evm_model.specs.Boosts.{reaches}
+use Rattle.evm_model.specs.Mending.{IsSettledBut}
 use Rattle.evm_ready.specs.ListedRanks.{listed_rank}
 
 -- the entry of a task, if there is one, says what the task says

@@ -3,7 +3,7 @@ ghost use Rattle.arrayvec.specs.ArrayVec.{array_vec_len};
 ghost use Rattle.evm_boost.specs.Owning.{owned_by};
 ghost use Rattle.evm_model.specs.Lists.{change};
 ghost use Rattle.evm_model.specs.Mutexes.{owner, owns_any, held_by, freed};
-ghost use Rattle.law_ranks.specs.Boosts.{is_number};
+ghost use Rattle.evm_model.specs.Boosts.{is_number};
 
 use crate::owned::Owned;
 use crate::slot::Slot;

@@ -4,7 +4,7 @@ ghost use Rattle.std.specs.Prelude.{◌≡◌, ◌<◌, ◌≤◌, true, length,
 ghost use Rattle.evm_boost.specs.Scatter.{filled, raise_to, class_rank_at, own_ranks, next_ranks, AreRanks};
 ghost use Rattle.evm_model.specs.Mutexes.{ceiling_owner, ceiling};
 ghost use Rattle.evm_model.specs.Ranks.{class_rank};
-ghost use Rattle.law_ranks.specs.Boosts.{greater};
+ghost use Rattle.evm_model.specs.Boosts.{greater};
 ghost use Rattle.evm_ready.specs.ListedRanks.{listed_rank};
 
 use crate::mutexes::Mutexes;

@@ -16,7 +16,7 @@ ghost use Rattle.evm_model.specs.declared.mutex.Protocol.TheVariants.{Inheritanc
 ghost use Rattle.evm_model.specs.declared.task.Task.{Task as ATask};
 ghost use Rattle.evm_model.specs.declared.task.TaskState.TheVariants.{Waits};
 ghost use Rattle.evm_model.specs.declared.task.Wait.TheVariants.{Lock};
-ghost use Rattle.law_ranks.specs.Boosts.{reaches};
+ghost use Rattle.evm_model.specs.Boosts.{reaches};
 ghost use Rattle.evm_ready.specs.Oob.{has_oob};
 ghost use Rattle.evm_ready.specs.Places.{ready_place, stamped_place};
 ghost use Rattle.evm_wait.specs.Waiters.{awaited, stamped_waiter};

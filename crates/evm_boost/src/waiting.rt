@@ -3,7 +3,7 @@
 ghost use Rattle.std.specs.Prelude.{◌≡◌, Some};
 ghost use Rattle.evm_model.specs.Mutexes.{lock_at, waits_on, heir_by, heir_of, boosts};
 ghost use Rattle.evm_model.specs.declared.limits.TheConstants.{TASK_LIMIT};
-ghost use Rattle.law_ranks.specs.Boosts.{reaches};
+ghost use Rattle.evm_model.specs.Boosts.{reaches};
 
 use crate::mutexes::Mutexes;
 use evm_model::{Mutex, Protocol, TASK_LIMIT, TaskState, Wait};

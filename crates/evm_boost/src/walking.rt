@@ -8,8 +8,8 @@ ghost use Rattle.evm_boost.specs.Settling.{IsSettling};
 ghost use Rattle.evm_model.specs.Lists.{change};
 ghost use Rattle.evm_model.specs.Mutexes.{boosts, owner};
 ghost use Rattle.evm_model.specs.declared.task.Wait.TheVariants.{Lock};
-ghost use Rattle.law_ranks.specs.Boosts.{greatest};
-ghost use Rattle.law_ranks.specs.Mending.{no_task, with_task};
+ghost use Rattle.evm_model.specs.Boosts.{greatest};
+ghost use Rattle.evm_model.specs.Mending.{no_task, with_task};
 ghost use Rattle.evm_ready.specs.ListedRanks.{listed_rank};
 
 use crate::mutexes::Mutexes;

@@ -9,7 +9,7 @@ use Rattle.evm_model.specs.Tasks.{demote, restamp, set_state}
 use Rattle.evm_model.specs.declared.call.Outcome.{Outcome}
 use Rattle.evm_model.specs.declared.errno.Errno.{Errno}
 use Rattle.evm_model.specs.declared.errno.Errno.TheVariants.{NotPermitted, Deadlock}
-use Rattle.law_walk.proofs.Unchanged.{RestsAt, lock_rests, try_rests, unlock_rests}
+use Rattle.law_rules.proofs.Unchanged.{RestsAt, lock_rests, try_rests, unlock_rests}
 
 notices_fit : (k : Parts) → HasRoom PER_CALL k → k.notices.total ≤ COUNT_LIMIT
 notices_fit k room = omega (arith, room.notices)

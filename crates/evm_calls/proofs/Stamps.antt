@@ -14,9 +14,9 @@ use Rattle.evm_model.specs.declared.call.Outcome.{Outcome}
 use Rattle.evm_model.specs.declared.call.Outcome.TheVariants.{Returns, Blocks, Exits}
 use Rattle.evm_parts.specs.evm_task.Asks.{AskedBy}
 use Rattle.evm_parts.specs.evm_task.declared.harts.Asked.{Asked}
-use Rattle.law_walk.proofs.Calls.{walks_closely}
-use Rattle.law_walk.proofs.Sizes.{walk_most}
-use Rattle.law_walk.proofs.Walk.{Actor, AreFew, start, unchanged}
+use Rattle.law_rules.proofs.Calls.{walks_closely}
+use Rattle.law_rules.proofs.Sizes.{walk_most}
+use Rattle.law_rules.proofs.Walk.{Actor, AreFew, start, unchanged}
 
 -- task t calls on processor c
 abbrev calls : ℕ → ℕ → Actor

@@ -10,7 +10,7 @@ ghost use Rattle.evm_model.specs.Tasks.{demote};
 ghost use Rattle.evm_model.specs.declared.notice.NoticeKind.TheVariants.{DemotedByCall};
 ghost use Rattle.evm_calls.specs.Asking.{IsAsked, IsMade};
 ghost use Rattle.evm_parts.specs.evm_task.Asks.{AskedBy};
-ghost use Rattle.law_walk.specs.Few.{AreFew};
+ghost use Rattle.law_rules.specs.Few.{AreFew};
 
 use crate::actions::set_line;
 use crate::clock::clock;

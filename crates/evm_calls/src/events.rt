@@ -3,7 +3,7 @@
 ghost use Rattle.std.specs.Prelude.{◌≡◌};
 ghost use Rattle.evm_model.specs.Bounds.{PER_CALL, HasRoom};
 ghost use Rattle.evm_model.specs.Events.{begin_event_wait, broadcast, event_wait, has_other, holding_refusal, holds_alone, new_event, signal};
-ghost use Rattle.law_ranks.specs.Boosts.{is_number};
+ghost use Rattle.evm_model.specs.Boosts.{is_number};
 
 use crate::refused::refused;
 use crate::waits::wait_refusal;

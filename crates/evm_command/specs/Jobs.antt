@@ -6,7 +6,7 @@ use Rattle.evm_host.specs.evm_serve.evm_streams.declared.source.Reading.{Reading
 use Rattle.evm_host.specs.evm_serve.evm_streams.declared.source.ReadStop.{ReadStop}
 use Rattle.evm_host.specs.evm_serve.evm_streams.declared.sink.Writing.{Writing}
 use Rattle.evm_host.specs.evm_serve.evm_streams.Reads.{Reads, ReadsText}
-use Rattle.evm_image.specs.Images.{Contents}
+use Rattle.evm_ram.specs.Images.{Contents}
 use Rattle.evm_host.specs.evm_serve.evm_asm.Assembled.{program_of}
 use Rattle.evm_host.specs.evm_serve.evm_asm_lexer.Faults.{reported}
 use Rattle.evm_host.specs.evm_serve.RunOptions.{Attached, RunOptions, image_options, bare_options}

@@ -1,4 +1,5 @@
 pub mod Jobs
+pub mod Running
 pub mod ThreadRuns
 pub mod Words
-pub mod Running
+pub mod Workers

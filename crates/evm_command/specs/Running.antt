@@ -8,7 +8,7 @@ use Rattle.clap.specs.declared.error.ErrorKind.TheVariants.{OutOfMemory}
 use Rattle.evm_host.specs.evm_serve.RunOptions.{Attached}
 use Rattle.evm_host.specs.declared.system.OpenFault.{OpenFault}
 use Rattle.evm_host.specs.declared.system.World.{World}
-use Rattle.command_lines.specs.Answers.{Refuses}
+use Rattle.evm_host.specs.Answers.{Refuses}
 use Rattle.evm_command.specs.Jobs.{AssemblesFile, Runs, Replays}
 use Rattle.evm_command.specs.ThreadRuns.{RunsFileByThreads, SaysNumber}
 use Rattle.evm_command.specs.Words.{Wanted, Assemble, Run, Replay, Threads, evltool, job_of}

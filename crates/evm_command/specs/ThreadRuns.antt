@@ -1,14 +1,14 @@
 -- What `threads IMAGE TURNS` asks of the system, and the status that it ends with.
 use Rattle.std.specs.Prelude.{◌≡◌, ℕ, ◌<◌, ◌^◌, List, Result}
 use Rattle.std.specs.Str.Parse.{IsNumeral, digits_value, without_leading_plus}
-use Rattle.evm_image.specs.Images.{Contents}
-use Rattle.evm_host.specs.evm_messages.Diagnostic.{Tells}
+use Rattle.evm_ram.specs.Images.{Contents}
+use Rattle.evm_host.specs.evm_streams.Diagnostic.{Tells}
 use Rattle.evm_host.specs.evm_serve.RunOptions.{Attached}
 use Rattle.evm_host.specs.evm_serve.evm_streams.declared.source.Reading.{Reading}
 use Rattle.evm_host.specs.evm_serve.evm_streams.declared.sink.Writing.{Writing}
-use Rattle.evm_threads.specs.Runs.{Ends, loaded_machine, ending_status}
-use Rattle.evm_threads.specs.declared.outcome.RunEnding.{RunEnding}
-use Rattle.evm_threads.specs.declared.outcome.RunEnding.TheVariants.{Written, Incomplete, ImageRefused, NoMemory, WriteFailed}
+use Rattle.evm_command.specs.Workers.{Ends, loaded_machine, ending_status}
+use Rattle.evm_command.specs.declared.outcome.RunEnding.{RunEnding}
+use Rattle.evm_command.specs.declared.outcome.RunEnding.TheVariants.{Written, Incomplete, ImageRefused, NoMemory, WriteFailed}
 use Rattle.evm_host.specs.Exit.{report_name}
 use Rattle.evm_host.specs.Asks.{AsksNothing, Behind, Loads}
 use Rattle.evm_host.specs.declared.system.OpenFault.{OpenFault}

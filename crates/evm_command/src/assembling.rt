@@ -3,7 +3,7 @@
 ghost use Rattle.evm_command.specs.Jobs.{Creates, AssemblesFile};
 
 use evm_host::{
-    Known, System, World, assemble_to, ended_with, not_created, not_opened, not_read, read_utf8,
+    Input, System, World, assemble_to, ended_with, not_created, not_opened, not_read, read_utf8,
     report_out,
 };
 use std::alloc::Global;
@@ -22,7 +22,7 @@ fn assemble_text<S: System>(
         Err(fault) => not_created(out, fault, &mut world.errors),
         Ok(mut file) => {
             let ending = assemble_to(alloc, text, &mut file, &mut world.output);
-            let status = ended_with(Known::Source(text), source, &ending, &mut world.errors);
+            let status = ended_with(Input::Source(text), source, &ending, &mut world.errors);
             report_out(source, out, &ending, &mut world.errors);
             status
         }

@@ -3,7 +3,7 @@
 ghost use Rattle.std.specs.Prelude.{◌≡◌, MatchResult, map, option_map};
 ghost use Rattle.evm_command.specs.ThreadRuns.{SaysNumber};
 ghost use Rattle.std.specs.String.{string_bytes};
-ghost use Rattle.command_lines.specs.Answers.{HasNoWords};
+ghost use Rattle.evm_host.specs.Answers.{HasNoWords};
 ghost use Rattle.evm_command.specs.Running.{Does, DoesNamed, Answers, program_name};
 ghost use Rattle.evm_command.specs.Words.{wanted};
 
@@ -13,9 +13,8 @@ use crate::running::run;
 use crate::threading::run_by_threads;
 use crate::words::{Job, job_of, parse};
 use clap::error::ErrorKind;
-use command_lines::{no_words, refuse};
 use evm_dev::Device;
-use evm_host::{Devices, System, USAGE, WordsFault, World};
+use evm_host::{Devices, System, USAGE, WordsFault, World, no_words, refuse};
 use std::alloc::Global;
 use std::sync::Wait;
 use std::thread::Threads;

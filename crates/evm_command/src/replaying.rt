@@ -4,10 +4,10 @@ ghost use Rattle.evm_command.specs.Jobs.{ReplaysText, ReplaysJournal, Replays};
 
 use evm_dev::Device;
 use evm_host::{
-    Devices, Known, RunOptions, System, World, ended_with, image_at, not_opened, not_read,
+    Devices, Input, RunOptions, System, World, ended_with, image_at, not_opened, not_read,
     read_utf8, replay_text,
 };
-use evm_image::Image;
+use evm_ram::Image;
 use std::alloc::Global;
 
 // Replays the text of a journal with devices and an image.
@@ -26,8 +26,8 @@ fn replay_read<S: System, D: Device>(
         devices,
     };
     let ending = replay_text(alloc, options, text, &mut world.output);
-    let known = Known::Lines(Some(image), text.as_bytes());
-    ended_with(known, journal, &ending, &mut world.errors)
+    let input = Input::Lines(Some(image), text.as_bytes());
+    ended_with(input, journal, &ending, &mut world.errors)
 }
 
 // Replays the journal of a file with devices and an image.

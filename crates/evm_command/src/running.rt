@@ -5,7 +5,7 @@ ghost use Rattle.evm_command.specs.Jobs.{ServesScript, ServesInput, RunsImage, R
 
 use evm_dev::Device;
 use evm_host::{
-    Devices, Known, RunOptions, System, World, ended_with, image_at, not_read, read_all, run_script,
+    Devices, Input, RunOptions, System, World, ended_with, image_at, not_read, read_all, run_script,
 };
 use std::alloc::Global;
 
@@ -34,7 +34,7 @@ fn serve_text<S: System, D: Device>(
         &mut world.errors,
     );
     ended_with(
-        Known::Lines(image, script),
+        Input::Lines(image, script),
         SCRIPT,
         &ending,
         &mut world.errors,

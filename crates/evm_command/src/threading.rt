@@ -3,12 +3,14 @@
 ghost use Rattle.std.specs.Prelude.{◌≡◌};
 ghost use Rattle.evm_command.specs.ThreadRuns.{ExplainsRun, RunsByThreads, RunsFileByThreads};
 
+use crate::outcome::RunEnding;
+use crate::workers::threads_to;
 use evm_dev::Device;
 use evm_host::{
     Devices, Message, OUTPUT, Sink, System, World, failed_write_message, image_at, report,
 };
-use evm_image::Image;
-use evm_threads::{Blanks, RunEnding, threads_to};
+use evm_ram::Image;
+use evm_shared::Blanks;
 use std::alloc::Global;
 use std::sync::Wait;
 use std::sync::ledger::Blank;

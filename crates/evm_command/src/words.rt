@@ -9,7 +9,7 @@ ghost use Rattle.evm_command.specs.Words.{place_rule, asm_app, run_app, replay_a
 use crate::help::{ASM_HELP, PROGRAM_HELP, REPLAY_HELP, RUN_HELP, THREADS_HELP};
 use clap::builder::ValueParser;
 use clap::{Arg, ArgMatches, Command, Error};
-use command_lines::VERSION;
+use evm_host::VERSION;
 use std::alloc::{AllocError, Global};
 
 /// A job, with the names of its files.

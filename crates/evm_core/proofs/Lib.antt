@@ -9,4 +9,3 @@ pub mod Rules
 pub mod Words
 pub use Rattle.evm_history.proofs as evm_history
 pub use Rattle.evm_board.proofs.law_rules as law_rules
-pub use Rattle.evm_board.proofs.law_walk as law_walk

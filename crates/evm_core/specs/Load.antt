@@ -2,7 +2,7 @@
 use Rattle.std.specs.Prelude.{◌==◌, if◌then◌else◌, length, Option, Some, None, Result, Ok, Err}
 use Rattle.std.specs.List.{list_any}
 use Rattle.evm_board.specs.Room.{passes_ram}
-use Rattle.evm_image.specs.Images.{Contents, byte_at}
+use Rattle.evm_ram.specs.Images.{Contents, byte_at}
 use Rattle.evm_model.specs.declared.refusal.Refusal.{Refusal}
 use Rattle.evm_model.specs.declared.refusal.Refusal.TheVariants.{BadAddress, Started}
 use Rattle.evm_model.specs.Load.{load_board}

@@ -25,10 +25,7 @@ fn push_each_word<D: Device>(out: &mut String, i: u8, machine: &Machine<D>) -> R
     machine.rules();
     let mut k = 0usize;
     'words: while let Some(word) = machine.device_word(i, k) {
-        match push_word(out, word) {
-            Ok(()) => {}
-            Err(refused) => return Err(refused),
-        }
+        push_word(out, word)?;
         k += 1;
     }
     Ok(())

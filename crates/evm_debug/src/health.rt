@@ -55,10 +55,7 @@ fn push_kept<D: Device>(out: &mut String, machine: &Machine<D>) -> Result<(), Re
     ensures { Appends (notices_below (length machine.now.board.parts.notices.kept) machine.now.board.parts.notices.kept) out.old out.new result }
 {
     for i in 0..machine.notice_count() {
-        match push_numbered_notice(out, i, machine) {
-            Ok(()) => {}
-            Err(refused) => return Err(refused),
-        }
+        push_numbered_notice(out, i, machine)?;
     }
     Ok(())
 }

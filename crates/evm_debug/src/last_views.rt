@@ -31,10 +31,7 @@ fn push_all_stages<D: Device>(out: &mut String, machine: &Machine<D>) -> Result<
     ensures { Appends (stages_below (length machine.now.board.parts.processors) machine.now.board.parts) out.old out.new result }
 {
     for c in 0..machine.cpu_count() {
-        match push_stages_of(out, c, machine) {
-            Ok(()) => {}
-            Err(refused) => return Err(refused),
-        }
+        push_stages_of(out, c, machine)?;
     }
     Ok(())
 }

@@ -53,10 +53,7 @@ fn push_registers(out: &mut String, hart: &Hart) -> Result<(), Refused>
     ensures { Appends (register_rows hart.now.regs) out.old out.new result }
 {
     for line in 0..REGISTERS / 4 {
-        match push_register_line(out, line * 4, hart) {
-            Ok(()) => {}
-            Err(refused) => return Err(refused),
-        }
+        push_register_line(out, line * 4, hart)?;
     }
     Ok(())
 }
@@ -102,10 +99,7 @@ pub(crate) fn push_tasks<D: Device>(out: &mut String, machine: &Machine<D>) -> R
     ensures { Appends (tasks_text machine.now.board.parts) out.old out.new result }
 {
     for t in 0..machine.task_count() {
-        match push_numbered_task(out, t, machine) {
-            Ok(()) => {}
-            Err(refused) => return Err(refused),
-        }
+        push_numbered_task(out, t, machine)?;
     }
     Ok(())
 }
@@ -152,10 +146,7 @@ pub(crate) fn push_owners<D: Device>(out: &mut String, machine: &Machine<D>) -> 
     ensures { Appends (owners_text machine.now.board.parts) out.old out.new result }
 {
     for m in 0..machine.mutex_count() {
-        match push_numbered_mutex(out, m, machine) {
-            Ok(()) => {}
-            Err(refused) => return Err(refused),
-        }
+        push_numbered_mutex(out, m, machine)?;
     }
     Ok(())
 }

@@ -1,1 +1,2 @@
 pub mod AnyDevice
+pub mod Devices

@@ -1,7 +1,7 @@
 -- Places of the tasks below a number, and reports one after another.
 use Rattle.std.proofs.Common.{◌≡◌, ℕ, zero, suc, ◌+◌, List, [], ◌∷◌, ◌++◌, refl, subst, add-one}
 use Rattle.std.specs.Prelude.{slice_get}
-use Rattle.evm_messages.specs.Diagnostic.{Place, TellsAll}
+use Rattle.evm_streams.specs.Diagnostic.{Place, TellsAll}
 use Rattle.evm_model.specs.State.{Board}
 use Rattle.evm_streams.specs.declared.sink.Writing.{Writing}
 use Rattle.evm_diagnostics.specs.Notes.{task_places, places_below}

@@ -12,7 +12,7 @@ use Rattle.evm_model.specs.declared.task.Task.{Task}
 use Rattle.evm_model.specs.declared.task.TaskState.{TaskState}
 use Rattle.evm_model.specs.declared.task.TaskState.TheVariants as states
 use Rattle.evm_ram.specs.Ram.{bytes_at}
-use Rattle.evm_messages.specs.Diagnostic.{Place, File, Line}
+use Rattle.evm_streams.specs.Diagnostic.{Place, File, Line}
 use Rattle.evm_diagnostics.specs.declared.note.StepNote.{StepNote}
 use Rattle.evm_diagnostics.specs.declared.note.StopPlace.{StopPlace}
 use Rattle.evm_diagnostics.specs.declared.note.StopPlace.TheVariants.{Breakpoint, Ebreak, Pc, Idle}

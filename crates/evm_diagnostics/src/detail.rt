@@ -4,8 +4,8 @@ use crate::fault::InputFault;
 use crate::lookup::{ends_in_line, has_boot, is_of_version_3, line_numbered, line_read};
 use crate::refusal_detail::refusal_detail;
 use evm_debug::{JournalFault, JournalFaultKind, Line, read_line};
-use evm_image::Image;
-use evm_messages::{Message, bad_line_detail, byte_detail, grammar_detail, odd_byte};
+use evm_ram::Image;
+use evm_streams::{Message, bad_line_detail, byte_detail, grammar_detail, odd_byte};
 
 // The form that one of the first two lines of a journal should have. That of the second goes by the version.
 fn header_form(number: u64, text: &[u8]) -> &'static str {

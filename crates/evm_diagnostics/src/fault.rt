@@ -6,8 +6,8 @@ ghost use Rattle.evm_diagnostics.specs.Faults.{event_cpu, view_cpu, line_at_faul
 
 use evm_debug::{Event, JournalFault, Refusal, View};
 use evm_elf::AsmFault;
-use evm_messages::{LineFault, Message, Numeral};
 use evm_model::Block;
+use evm_streams::{LineFault, Message, Numeral};
 use std::fmt;
 use thiserror::Error;
 

@@ -1,14 +1,13 @@
 //! Notes on standard error: where a processor is stopped, and where a task ended by a fault.
 
 ghost use Rattle.std.specs.Prelude.{◌≡◌, option_copied, slice_get, Option};
-ghost use Rattle.evm_messages.specs.Diagnostic.{TellsAll};
+ghost use Rattle.evm_streams.specs.Diagnostic.{TellsAll};
 ghost use Rattle.evm_diagnostics.specs.Notes.{is_ebreak, stop_place_at, stop_place_of, is_cpu_stopped, note_of, note_places, task_fault, faulted_places, task_places, ended_places};
 
 use evm_debug::Machine;
 use evm_dev::Device;
-use evm_messages::{Diagnostic, Message, Numeral, report, report_line};
 use evm_model::{Fault, Task, TaskState};
-use evm_streams::Sink;
+use evm_streams::{Diagnostic, Message, Numeral, Sink, report, report_line};
 
 /// Where a processor is stopped.
 #[derive(Clone, Copy, Debug, PartialEq, Eq)]

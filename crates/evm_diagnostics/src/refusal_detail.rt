@@ -3,10 +3,9 @@
 use crate::fault::refusal_message;
 use crate::lookup::{last_interrupt, ram_of};
 use evm_debug::{Boot, Event, Line, Refusal, View};
-use evm_image::{Image, Segment};
-use evm_messages::{Message, Numeral};
 use evm_model::{CAPACITY_LIMIT, POKE_LIMIT, PROCESSOR_LIMIT, RAM_LEAST, RAM_UNIT};
-use evm_ram::{BASE, SIZE_LIMIT};
+use evm_ram::{BASE, Image, SIZE_LIMIT, Segment};
+use evm_streams::{Message, Numeral};
 
 fn bad_cpus(cpus: u64) -> bool {
     cpus == 0 || cpus > PROCESSOR_LIMIT as u64

@@ -4,7 +4,7 @@ use Rattle.std.proofs.lemmas.List.{get_or-take, get_or-drop}
 use Rattle.evm_asm.specs.declared.output.ProgramLine.{ProgramLine}
 use Rattle.evm_asm.specs.Assembled.{StandsIn}
 use Rattle.evm_asm.specs.Bounds.{ProgramsFit, WordsStand}
-use Rattle.evm_image.specs.Images.{Contents, byte_at, range_start}
+use Rattle.evm_ram.specs.Images.{Contents, byte_at, range_start}
 use Rattle.evm_elf.specs.Files.{image_of_bytes}
 use Rattle.evm_elf.specs.Programs.{AssembledIsRead, Holds, WordsAreLoaded}
 use Rattle.evm_elf.proofs.Written.{no_fault, image_is, memory_is}

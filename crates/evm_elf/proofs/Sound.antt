@@ -7,7 +7,7 @@ use Rattle.std.proofs.lemmas.Bool.Decides.{nat_tests}
 use Rattle.evm_elf.specs.declared.header.Header.{Header}
 use Rattle.evm_elf.specs.declared.fault.ElfFault.TheVariants.{NoMemory}
 use Rattle.evm_elf.specs.Fields.{headers, headers_from, header_count, entry_point}
-use Rattle.evm_image.specs.Images.{Loaded, Contents, Covers, byte_in, IsFree, IsOnly, Fills, IsApart, IsSound, range_start, range_end}
+use Rattle.evm_ram.specs.Images.{Loaded, Contents, Covers, byte_in, IsFree, IsOnly, Fills, IsApart, IsSound, range_start, range_end}
 use Rattle.evm_elf.specs.Faults.{is_load, load_of, load_headers, is_outside, passes_end, leaves_range, share, some_two, is_overfull, is_entry, file_has, faults, fault_of, segment_of, image_of}
 use Rattle.evm_elf.proofs.Sharing.{holds, point_share}
 

@@ -9,7 +9,7 @@ use Rattle.std.specs.Prelude.{slice_index}
 use Rattle.std.proofs.lemmas.List.{get_or_past}
 use Rattle.std.specs.List.{list_any, filter_map, find, AllByRecursion}
 use Rattle.std.proofs.lemmas.Bool.{cases_lt, or_from, and_right, and_from, lt-ltb, le-leb, le-ltb, cond-false, not_from_true}
-use Rattle.evm_image.specs.Images.{Loaded, Contents, covers, byte_at, range_start, range_end}
+use Rattle.evm_ram.specs.Images.{Loaded, Contents, covers, byte_at, range_start, range_end}
 use Rattle.evm_elf.specs.Faults.{load_of, load_headers, is_dynamic, is_outside, passes_end, leaves_range, is_overfull, share, some_two, has_other_class, has_other_kind, has_other_header_size, is_entry, segment_of, file_has, faults, fault_of, image_of}
 use Rattle.evm_elf.specs.Files.{file_of, image_of_bytes}
 

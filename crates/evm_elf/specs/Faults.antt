@@ -5,7 +5,7 @@ use Rattle.evm_elf.specs.declared.fault.ElfFault.{ElfFault}
 use Rattle.evm_elf.specs.declared.fault.ElfFault.TheVariants.{Short, Magic, Class, Kind, MachineNumber, Compressed, Dynamic, SegmentOutside, SegmentOverlap, SizeOrder, Entry, NoMemory}
 use Rattle.evm_elf.specs.declared.header.Header.{Header}
 use Rattle.evm_elf.specs.Fields.{magic, class, encoding, ident_version, file_kind, machine_number, version, entry_point, flags, header_size, header_count, headers}
-use Rattle.evm_image.specs.Images.{Loaded, Contents, Fills, byte_at, range_start, range_end}
+use Rattle.evm_ram.specs.Images.{Loaded, Contents, Fills, byte_at, range_start, range_end}
 
 -- a segment to be loaded
 abbrev pub is_load : Header → Bool

@@ -1,7 +1,7 @@
 -- The file of a program whose bytes all lie at the start of the range.
 use Rattle.std.specs.Prelude.{ℕ, List, [], ◌∷◌, ◌++◌, length, replicate}
 use Rattle.byteorder.specs.Endian.{little_bytes}
-use Rattle.evm_image.specs.Images.{Contents, range_start}
+use Rattle.evm_ram.specs.Images.{Contents, range_start}
 
 -- a file header, and a program header, in bytes
 abbrev pub file_header_size : ℕ

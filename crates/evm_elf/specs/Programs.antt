@@ -4,7 +4,7 @@ use Rattle.std.specs.Int.{w32, to_le_bytes}
 use Rattle.evm_asm.specs.declared.output.ProgramLine.{ProgramLine}
 use Rattle.evm_asm.specs.Assembled.{Assembled}
 use Rattle.evm_asm.specs.Assembled.{program_of as assembled_of}
-use Rattle.evm_image.specs.Images.{Contents, byte_at}
+use Rattle.evm_ram.specs.Images.{Contents, byte_at}
 use Rattle.evm_elf.specs.Faults.{fault_of, image_of}
 use Rattle.evm_elf.specs.Files.{file_of, image_of_bytes}
 

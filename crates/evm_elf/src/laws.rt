@@ -2,7 +2,7 @@
 
 ghost use Rattle.std.specs.Prelude.{◌≡◌, ◌≤◌, ◌+◌, ◌↔◌, ℕ, List, length, slice_index, true, Some, None};
 ghost use Rattle.evm_elf.specs.declared.fault.ElfFault.TheVariants.{SegmentOverlap};
-ghost use Rattle.evm_image.specs.Images.{byte_at, range_start, IsSound};
+ghost use Rattle.evm_ram.specs.Images.{byte_at, range_start, IsSound};
 ghost use Rattle.evm_elf.specs.Files.{file_of, image_of_bytes};
 ghost use Rattle.evm_elf.specs.Programs.{AssembledIsRead, WordsAreLoaded};
 ghost use Rattle.evm_elf.specs.declared.writing.TheConstants.{PROGRAM_MAX};

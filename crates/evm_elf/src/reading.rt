@@ -10,7 +10,7 @@ ghost use Rattle.evm_room.specs.Growth.{RefusedWithin};
 use crate::fault::ElfFault;
 use crate::faults::first_fault;
 use crate::header::{Header, half_at, load_header, long_at};
-use evm_image::{Image, Segment};
+use evm_ram::{Image, Segment};
 use evm_room::{Refused, grow};
 use std::alloc::Global;
 

@@ -5,8 +5,8 @@ use Rattle.evm_serve.specs.evm_streams.declared.source.Reading.{Reading}
 use Rattle.evm_serve.specs.evm_streams.declared.source.ReadStop.{ReadStop}
 use Rattle.evm_serve.specs.evm_streams.declared.sink.Writing.{Writing}
 use Rattle.evm_serve.specs.evm_streams.Reads.{Reads, ReadsText}
-use Rattle.evm_image.specs.Images.{Contents}
-use Rattle.evm_messages.specs.Diagnostic.{Tells}
+use Rattle.evm_ram.specs.Images.{Contents}
+use Rattle.evm_streams.specs.Diagnostic.{Tells}
 use Rattle.evm_serve.specs.Serving.{Unread}
 use Rattle.evm_serve.specs.Imaging.{Checks}
 use Rattle.evm_serve.specs.declared.ending.Ending.{Ending}

@@ -3,20 +3,20 @@
 ghost use Rattle.std.specs.Prelude.{◌≡◌};
 ghost use Rattle.std.specs.Str.{bytes_eq};
 ghost use Rattle.evm_serve.specs.evm_diagnostics.Lookup.{has_boot};
-ghost use Rattle.evm_messages.specs.Diagnostic.{Tells};
+ghost use Rattle.evm_streams.specs.Diagnostic.{Tells};
 ghost use Rattle.evm_serve.specs.Serving.{Unread};
 ghost use Rattle.evm_host.specs.Asks.{NotRead, NotWords};
-ghost use Rattle.evm_host.specs.Exit.{Explains, Ended, EndedWith, known_of, Boots, Finished, shown_path, output_name, Emptied, Leaves};
+ghost use Rattle.evm_host.specs.Exit.{Explains, Ended, EndedWith, input_of, TellsIdle, Finished, shown_path, output_name, Emptied, Leaves};
 
 use crate::image_message::image_message;
 use crate::source_message::source_diagnostic;
 use crate::system::{OpenFault, System, World};
-use evm_image::Image;
-use evm_messages::{Diagnostic, Message, report, report_line};
+use evm_ram::Image;
 use evm_serve::{
     Cause, ElfFault, Ending, InputFault, ReadFault, ReadStop, Sink, Verdict, fault_detail,
     has_boot, line_numbered, write_all,
 };
+use evm_streams::{Diagnostic, Message, report, report_line};
 
 /// The status where a file can't be opened, created, read or written.
 pub const FAILED: u8 = 4;
@@ -30,9 +30,10 @@ pub const OUTPUT: &str = "standard output";
 /// The name of what `asm` writes to.
 const OUTPUTS: &str = "OUT or standard output";
 
-/// What is known of the input of a job.
+/// The input of a job, as its reports need it.
 #[derive(Clone, Copy)]
-pub enum Known<'a> {
+pub enum Input<'a> {
+    /// Nothing is known of it.
     Nothing,
     /// The source that it assembles.
     Source(&'a str),
@@ -167,19 +168,19 @@ fn job_diagnostic(source: &str, fault: InputFault) -> Diagnostic<'_> {
 }
 
 // The diagnostic of the fault of a job.
-fn fault_diagnostic(known: Known<'_>, fault: InputFault) -> Diagnostic<'_> {
-    match known {
-        Known::Nothing | Known::File(_) => Diagnostic::Alone(fault.message()),
-        Known::Source(source) => job_diagnostic(source, fault),
-        Known::Lines(image, text) => line_diagnostic(image, text, fault),
+fn fault_diagnostic(input: Input<'_>, fault: InputFault) -> Diagnostic<'_> {
+    match input {
+        Input::Nothing | Input::File(_) => Diagnostic::Alone(fault.message()),
+        Input::Source(source) => job_diagnostic(source, fault),
+        Input::Lines(image, text) => line_diagnostic(image, text, fault),
     }
 }
 
 // The message of a file that is not an image.
-fn image_fault_message(known: Known<'_>, fault: ElfFault) -> Message {
-    match known {
-        Known::File(bytes) => image_message(bytes, fault),
-        Known::Nothing | Known::Source(_) | Known::Lines(_, _) => {
+fn image_fault_message(input: Input<'_>, fault: ElfFault) -> Message {
+    match input {
+        Input::File(bytes) => image_message(bytes, fault),
+        Input::Nothing | Input::Source(_) | Input::Lines(_, _) => {
             Message::Plain(fault.message())
         }
     }
@@ -187,7 +188,7 @@ fn image_fault_message(known: Known<'_>, fault: ElfFault) -> Message {
 
 // Reports a script that has no boot line.
 fn report_idle<E: Sink>(name: &str, text: &[u8], errors: &mut E)
-    ensures { Boots E.takes name.now (has_boot text.now) errors.old errors.new }
+    ensures { TellsIdle E.takes name.now (has_boot text.now) errors.old errors.new }
 {
     if !has_boot(text) {
         report(
@@ -199,43 +200,43 @@ fn report_idle<E: Sink>(name: &str, text: &[u8], errors: &mut E)
 }
 
 // Reports a job of which all is done.
-fn report_done<E: Sink>(known: Known<'_>, name: &str, errors: &mut E)
-    ensures { Finished E.takes (known_of known.entry) name.now errors.old errors.new }
+fn report_done<E: Sink>(input: Input<'_>, name: &str, errors: &mut E)
+    ensures { Finished E.takes (input_of input.entry) name.now errors.old errors.new }
 {
-    match known {
-        Known::Lines(_, text) => report_idle(name, text, errors),
-        Known::Nothing | Known::Source(_) | Known::File(_) => {}
+    match input {
+        Input::Lines(_, text) => report_idle(name, text, errors),
+        Input::Nothing | Input::Source(_) | Input::File(_) => {}
     }
 }
 
 // The name of what a job writes to. `asm` writes to two files.
-fn output_name(known: Known<'_>) -> &'static str
-    ensures { result.now ≡ output_name (known_of known.entry) }
+fn output_name(input: Input<'_>) -> &'static str
+    ensures { result.now ≡ output_name (input_of input.entry) }
 {
-    match known {
-        Known::Source(_) => OUTPUTS,
-        Known::Nothing | Known::Lines(_, _) | Known::File(_) => OUTPUT,
+    match input {
+        Input::Source(_) => OUTPUTS,
+        Input::Nothing | Input::Lines(_, _) | Input::File(_) => OUTPUT,
     }
 }
 
 // Reports why a job on a file did not end well.
-fn explain<E: Sink>(known: Known<'_>, name: &str, ending: Ending, errors: &mut E)
-    ensures { Explains E.takes (known_of known.entry) name.now ending errors.old errors.new }
+fn explain<E: Sink>(input: Input<'_>, name: &str, ending: Ending, errors: &mut E)
+    ensures { Explains E.takes (input_of input.entry) name.now ending errors.old errors.new }
 {
     match ending {
-        Ending::Complete(Verdict::Done) => report_done(known, name, errors),
+        Ending::Complete(Verdict::Done) => report_done(input, name, errors),
         Ending::Complete(Verdict::Refused(fault)) => {
-            report_line(name, fault.line(), fault_diagnostic(known, fault), errors)
+            report_line(name, fault.line(), fault_diagnostic(input, fault), errors)
         }
         Ending::Complete(Verdict::ImageRefused(fault)) => {
-            report(name, image_fault_message(known, fault), errors)
+            report(name, image_fault_message(input, fault), errors)
         }
         Ending::NoMemory => report(name, Message::Plain("out of memory"), errors),
         Ending::ReadFailed(fault) => {
             report(name, Message::Plain(not_read_message(fault)), errors)
         }
         Ending::WriteFailed(fault) => report(
-            output_name(known),
+            output_name(input),
             Message::Plain(failed_write_message(fault.cause)),
             errors,
         ),
@@ -275,10 +276,10 @@ pub fn report_out<E: Sink>(source: &str, out: &str, ending: &Ending, errors: &mu
 }
 
 /// Reports why a job on a file did not end well, and returns its status.
-pub fn ended_with<E: Sink>(known: Known<'_>, name: &str, ending: &Ending, errors: &mut E) -> u8
-    ensures { EndedWith E.takes (known_of known.entry) name.now ending.now errors.old errors.new result }
+pub fn ended_with<E: Sink>(input: Input<'_>, name: &str, ending: &Ending, errors: &mut E) -> u8
+    ensures { EndedWith E.takes (input_of input.entry) name.now ending.now errors.old errors.new result }
 {
-    explain(known, name, *ending, errors);
+    explain(input, name, *ending, errors);
     ending.status()
 }
 
@@ -286,7 +287,7 @@ pub fn ended_with<E: Sink>(known: Known<'_>, name: &str, ending: &Ending, errors
 pub fn ended<E: Sink>(name: &str, ending: &Ending, errors: &mut E) -> u8
     ensures { Ended E.takes name.now ending.now errors.old errors.new result }
 {
-    ended_with(Known::Nothing, name, ending, errors)
+    ended_with(Input::Nothing, name, ending, errors)
 }
 
 // How a job ends that has not read its input. Where an allocation failed, the line `memory` is written.

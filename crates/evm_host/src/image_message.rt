@@ -1,7 +1,7 @@
 //! The message of a file that is not an image.
 
-use evm_messages::{Message, Numeral};
 use evm_serve::{ElfFault, ImageDetail, image_detail};
+use evm_streams::{Message, Numeral};
 
 // A file for another machine, by its number in the header.
 fn machine_message(number: u16) -> Message {

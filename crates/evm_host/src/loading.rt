@@ -4,9 +4,9 @@ ghost use Rattle.std.specs.Prelude.{MatchResult, Result};
 ghost use Rattle.std.specs.String.{string_bytes};
 ghost use Rattle.evm_host.specs.Asks.{ImportsBytes, Loads, LoadsText};
 
-use crate::exit::{Known, ended_with, not_opened, not_read};
+use crate::exit::{Input, ended_with, not_opened, not_read};
 use crate::system::{System, World};
-use evm_image::Image;
+use evm_ram::Image;
 use evm_serve::{import_bytes, read_all, read_utf8};
 use std::alloc::Global;
 
@@ -21,7 +21,7 @@ fn image_in<S: System>(
 {
     match import_bytes(alloc, file, &mut world.output) {
         Ok(image) => Ok(image),
-        Err(ending) => Err(ended_with(Known::File(file), path, &ending, &mut world.errors)),
+        Err(ending) => Err(ended_with(Input::File(file), path, &ending, &mut world.errors)),
     }
 }
 

@@ -1,9 +1,9 @@
 //! The diagnostic of the fault of a source.
 
-use evm_messages::{Diagnostic, Message, Numeral};
 use evm_serve::{
     AsmFault, AsmFaultKind, Extension, SourceDetail, line_numbered, quoted, source_detail,
 };
+use evm_streams::{Diagnostic, Message, Numeral};
 
 fn extension_message(extension: Extension) -> &'static str {
     match extension {

@@ -1,2 +1,10 @@
 pub mod Counting
+pub mod Greatest
+pub mod Heights
+pub mod Least
+pub mod Links
 pub mod Lists
+pub mod Mending
+pub mod Relinks
+pub mod Rounds
+pub mod Walks

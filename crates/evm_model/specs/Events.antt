@@ -1,6 +1,6 @@
 -- What each call on an event does to the parts, and what comes of it. All tasks that wait for an event named one mutex.
 use Rattle.std.specs.Prelude.{ℕ, zero, suc, [], ◌∷◌, ◌++◌, Option, Some, None, Bool, false, not, ◌==◌, ◌&&◌, nat_le, if◌then◌else◌, slice_get, length}
-use Rattle.law_ranks.specs.Boosts.{is_number}
+use Rattle.evm_model.specs.Boosts.{is_number}
 use Rattle.evm_model.specs.Lists.{change}
 use Rattle.evm_model.specs.Mutexes.{owner, owns_any, freed, held_by}
 use Rattle.evm_model.specs.Passing.{hand_over}

@@ -3,7 +3,7 @@ use Rattle.std.specs.Prelude.{◌≡◌, ◌<◌, ◌≤◌, ℕ, ◌+◌, ◌*�
 use Rattle.evm_lines.specs.Lines.{has_line, IsLineSet}
 use Rattle.evm_lines.specs.declared.TheConstants.{LINES}
 use Rattle.evm_exec.specs.declared.hart.Hart.{Hart}
-use Rattle.law_ranks.specs.Boosts.{HasHeight}
+use Rattle.evm_model.specs.Boosts.{HasHeight}
 use Rattle.evm_model.specs.Actions.{action_in}
 use Rattle.evm_model.specs.Bounds.{PER_EVENT, STAMPS_PER_EVENT, PipesUpTo, HeldUpTo}
 use Rattle.evm_model.specs.Devices.{Attached, IsDevice}

@@ -1,4 +1,5 @@
 pub mod Actions
+pub mod Boosts
 pub mod Bounds
 pub mod Calls
 pub mod Commands
@@ -19,9 +20,10 @@ pub mod Lists
 pub mod Load
 pub mod Locks
 pub mod Memory
+pub mod Mending
 pub mod Mutexes
-pub mod OobCalls
 pub mod Notices
+pub mod OobCalls
 pub mod Passing
 pub mod Pipes
 pub mod Policies

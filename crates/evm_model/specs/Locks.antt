@@ -1,6 +1,6 @@
 -- What each call on a mutex does to the parts, and what comes of it.
 use Rattle.std.specs.Prelude.{ℕ, ◌+◌, ◌-◌, [], ◌∷◌, ◌++◌, Option, Some, None, Bool, true, false, ◌==◌, nat_lt, nat_le, if◌then◌else◌, slice_get, length}
-use Rattle.law_ranks.specs.Boosts.{is_number, reaches}
+use Rattle.evm_model.specs.Boosts.{is_number, reaches}
 use Rattle.evm_model.specs.Mutexes.{free_mutex, held_by, waits_on}
 use Rattle.evm_model.specs.Notices.{notify_refused}
 use Rattle.evm_model.specs.Passing.{hand_over}

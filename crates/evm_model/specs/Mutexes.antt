@@ -1,6 +1,6 @@
 -- The mutexes: who owns them, and who waits for whom.
 use Rattle.std.specs.Prelude.{ℕ, zero, suc, ◌+◌, List, Option, Some, None, Bool, true, false, if◌then◌else◌, slice_get, length}
-use Rattle.law_ranks.specs.Boosts.{is_number}
+use Rattle.evm_model.specs.Boosts.{is_number}
 use Rattle.evm_model.specs.declared.mutex.Mutex.{Mutex}
 use Rattle.evm_model.specs.declared.mutex.Protocol.{Protocol}
 use Rattle.evm_model.specs.declared.mutex.Protocol.TheVariants.{Inheritance, Ceiling}

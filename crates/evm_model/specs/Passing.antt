@@ -1,6 +1,6 @@
 -- How a mutex passes on, and how a task ends.
 use Rattle.std.specs.Prelude.{ℕ, zero, suc, Option, Some, None, false, if◌then◌else◌, slice_get, length}
-use Rattle.law_ranks.specs.Boosts.{is_number}
+use Rattle.evm_model.specs.Boosts.{is_number}
 use Rattle.evm_model.specs.Mutexes.{owner, held_by, freed}
 use Rattle.evm_model.specs.Pipes.{set_stall}
 use Rattle.evm_model.specs.State.{Parts, on_pipe, on_mutex}

@@ -1,6 +1,6 @@
 -- Which task goes first. Tasks are spoken of by their numbers, so that a rank may come from other tasks too.
 use Rattle.std.specs.Prelude.{◌≡◌, ℕ, zero, suc, ◌+◌, ◌<◌, List, Option, Some, None, Bool, true, false, ◌&&◌, ◌==◌, nat_lt, if◌then◌else◌, slice_get, length}
-use Rattle.law_ranks.specs.Boosts.{greatest, rank_after}
+use Rattle.evm_model.specs.Boosts.{greatest, rank_after}
 use Rattle.evm_model.specs.Mutexes.{ceiling_owner, ceiling, boosts}
 use Rattle.evm_model.specs.declared.limits.TheConstants.{TASK_LIMIT}
 use Rattle.evm_model.specs.declared.mutex.Mutex.{Mutex}

@@ -1,4 +1,5 @@
-//! The machine as its users believe it: its state, its events, and what each event does.
+//! The machine as its users believe it: its state, its events, and what each event does. A task ranks by its own priority and by each task
+//! that it keeps waiting.
 #![tactic(auto)]
 
 mod action;

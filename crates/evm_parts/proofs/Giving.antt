@@ -9,7 +9,7 @@ use Rattle.evm_model.specs.State.{Parts, on_mutex}
 use Rattle.evm_model.specs.Tasks.{restamp}
 use Rattle.evm_model.specs.Waits.{wake}
 use Rattle.evm_model.specs.declared.mutex.Mutex.{Mutex}
-use Rattle.law_ranks.specs.Boosts.{is_number}
+use Rattle.evm_model.specs.Boosts.{is_number}
 use Rattle.evm_parts.specs.Waking.{woken_with}
 
 -- ---- the task owns a mutex then

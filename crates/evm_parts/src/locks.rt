@@ -11,7 +11,7 @@ ghost use Rattle.evm_model.specs.State.{on_mutex};
 ghost use Rattle.evm_model.specs.Waits.{first_waiter};
 ghost use Rattle.evm_model.specs.declared.task.Task.{Task};
 ghost use Rattle.evm_model.specs.Waits.{wake};
-ghost use Rattle.law_ranks.specs.Boosts.{reaches};
+ghost use Rattle.evm_model.specs.Boosts.{reaches};
 ghost use Rattle.evm_boost.specs.evm_ready.Oob.{has_oob};
 
 use crate::parts::Parts;

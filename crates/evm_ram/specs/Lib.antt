@@ -1,4 +1,5 @@
 pub mod Bytes
+pub mod Images
 pub mod Laws
 pub mod Ram
 pub mod Width

@@ -6,7 +6,7 @@ use Rattle.evm_room.specs.Growth.{RefusedWithin}
 use Rattle.evm_model.specs.declared.refusal.Refusal.{Refusal}
 use Rattle.evm_model.specs.declared.refusal.Refusal.TheVariants.{BadAddress, Started, NoMemory}
 use Rattle.evm_diagnostics.specs.evm_board.Room.{passes_ram}
-use Rattle.evm_image.specs.Images.{Contents}
+use Rattle.evm_ram.specs.Images.{Contents}
 use Rattle.evm_model.specs.State.{State}
 use Rattle.evm_diagnostics.specs.evm_core.Load.{load, load_unless}
 use Rattle.evm_diagnostics.specs.evm_debug.Views.{LacksMemory}

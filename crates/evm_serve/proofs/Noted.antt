@@ -8,7 +8,7 @@ use Rattle.evm_model.specs.State.{Board, State}
 use Rattle.evm_streams.specs.declared.sink.Writing.{Writing}
 use Rattle.evm_diagnostics.proofs.Notes.{tells_append}
 use Rattle.evm_serve.specs.RunOptions.{RunOptions}
-use Rattle.evm_messages.specs.Diagnostic.{Place, TellsAll, TellsSome}
+use Rattle.evm_streams.specs.Diagnostic.{Place, TellsAll, TellsSome}
 use Rattle.evm_diagnostics.specs.Notes.{note_places, ended_places}
 use Rattle.evm_serve.specs.RunNotes.{noted_at, lines_noted, notes, PlaysNotes}
 use Rattle.evm_serve.specs.Script.{Goes, Ends, line_outcome}

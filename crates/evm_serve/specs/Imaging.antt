@@ -2,7 +2,7 @@
 use Rattle.std.specs.Prelude.{◌≡◌, ℕ, List, [], None, ◌⊎◌, Result, Ok, Err, IsSomeAnd}
 use Rattle.evm_streams.specs.declared.sink.Writing.{Writing}
 use Rattle.evm_streams.specs.declared.source.ReadStop.{ReadStop}
-use Rattle.evm_image.specs.Images.{Contents}
+use Rattle.evm_ram.specs.Images.{Contents}
 use Rattle.evm_elf.specs.Faults.{fault_of, image_of}
 use Rattle.evm_elf.specs.declared.fault.ElfFault.{ElfFault}
 use Rattle.evm_serve.specs.Script.{Report}

@@ -6,7 +6,7 @@ use Rattle.evm_streams.specs.declared.source.ReadStop.{ReadStop}
 use Rattle.evm_streams.specs.declared.reads.TheConstants.{FILE_LIMIT}
 use Rattle.evm_streams.specs.Reads.{Reads, ReadsText}
 use Rattle.evm_streams.specs.Known.{ReaderGives, WriterTakes, AppendsPrefix}
-use Rattle.evm_image.specs.Images.{Contents}
+use Rattle.evm_ram.specs.Images.{Contents}
 use Rattle.evm_elf.specs.Faults.{fault_of, image_of}
 use Rattle.evm_elf.specs.Files.{file_of}
 use Rattle.evm_elf.specs.evm_asm.Assembled.{Assembled}

@@ -1,7 +1,7 @@
 -- The reports of replays, in the words of journals.
 use Rattle.std.specs.Prelude.{◌≡◌, ◌+◌, List, [], ◌∷◌, ◌++◌, None, Ok, Err, length}
 use Rattle.evm_diagnostics.specs.evm_core.Load.{load}
-use Rattle.evm_image.specs.Images.{Contents}
+use Rattle.evm_ram.specs.Images.{Contents}
 use Rattle.evm_model.specs.declared.refusal.Refusal.{Refusal}
 use Rattle.evm_model.specs.Devices.{Attached}
 use Rattle.evm_model.specs.State.{State}

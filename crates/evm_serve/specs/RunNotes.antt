@@ -8,7 +8,7 @@ use Rattle.evm_diagnostics.specs.evm_debug.LineReading.{line_at}
 use Rattle.evm_diagnostics.specs.evm_debug.declared.line.Line.{Line}
 use Rattle.evm_diagnostics.specs.evm_debug.declared.line.Line.TheVariants as lines
 use Rattle.evm_diagnostics.specs.evm_text.Lines.{text_lines}
-use Rattle.evm_messages.specs.Diagnostic.{Place, TellsAll, TellsSome}
+use Rattle.evm_streams.specs.Diagnostic.{Place, TellsAll, TellsSome}
 use Rattle.evm_model.specs.State.{State}
 use Rattle.evm_model.specs.declared.refusal.Refusal.{Refusal}
 use Rattle.evm_streams.specs.declared.sink.Writing.{Writing}

@@ -1,6 +1,6 @@
 -- The options of a run.
 use Rattle.std.specs.Prelude.{◌≡◌, List, Option, Some, None, ⊤}
-use Rattle.evm_image.specs.Images.{Contents}
+use Rattle.evm_ram.specs.Images.{Contents}
 pub use Rattle.evm_model.specs.Devices.{Attached}
 use Rattle.evm_model.specs.State.{State}
 

@@ -20,7 +20,7 @@ use Rattle.evm_serve.specs.declared.ending.Verdict.{Verdict}
 use Rattle.evm_serve.specs.declared.ending.Verdict.TheVariants as verdicts
 use Rattle.evm_diagnostics.specs.declared.fault.InputFault.{InputFault}
 use Rattle.evm_diagnostics.specs.declared.fault.InputFault.TheVariants.{BadLine, Refused}
-use Rattle.evm_messages.specs.declared.line_fault.LineFault.TheVariants.{OutsideGrammar, NotBooted, BootedAgain}
+use Rattle.evm_streams.specs.declared.line_fault.LineFault.TheVariants.{OutsideGrammar, NotBooted, BootedAgain}
 
 -- the last line of a run to which memory was refused
 abbrev pub memory_text : List ℕ

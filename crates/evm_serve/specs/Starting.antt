@@ -1,7 +1,7 @@
 -- The machine that a run begins with: booted with its devices, and with an image in it, if there is one.
 use Rattle.std.specs.Prelude.{◌≡◌, Option, Some, None, Result, Ok, Err, false, if◌then◌else◌}
 use Rattle.evm_diagnostics.specs.evm_core.Load.{load}
-use Rattle.evm_image.specs.Images.{Contents}
+use Rattle.evm_ram.specs.Images.{Contents}
 use Rattle.evm_serve.specs.RunOptions.{RunOptions}
 use Rattle.evm_serve.specs.Memory.{MemoryRefused}
 use Rattle.evm_model.specs.declared.refusal.Refusal.{Refusal}

@@ -10,7 +10,7 @@ use crate::ending::{Ending, Halt, Verdict};
 use crate::run_end::{ended, unread, write_report};
 use crate::texts::no_image;
 use evm_elf::{ElfFault, read_image};
-use evm_image::Image;
+use evm_ram::Image;
 use evm_streams::{Sink, Source, read_all};
 use std::alloc::Global;
 

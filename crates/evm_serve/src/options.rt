@@ -2,7 +2,7 @@
 
 use evm_dev::Device;
 use evm_diagnostics::Devices;
-use evm_image::Image;
+use evm_ram::Image;
 use std::marker::Model;
 
 /// The options of a run.

@@ -26,10 +26,10 @@ use evm_diagnostics::{
     Boot, Devices, Event, EventLine, InputFault, Line, Machine, Refusal, View, ViewRefusal,
     event_cpu, is_cpu_stopped, note_of, push_view, read_line, read_poke, read_short, view_cpu,
 };
-use evm_image::Image;
-use evm_messages::LineFault;
 use evm_model::{Block, NoBytes};
+use evm_ram::Image;
 use evm_room::NoMemory;
+use evm_streams::LineFault;
 use std::alloc::Global;
 
 // A boot, with the options.

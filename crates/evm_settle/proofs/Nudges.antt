@@ -9,7 +9,7 @@ use Rattle.evm_model.specs.Pipes.{Pipe, raise}
 use Rattle.evm_model.specs.Settle.{nudge_pipe, wants_nudge, nudge}
 use Rattle.evm_model.specs.State.{Parts, on_pipe}
 use Rattle.evm_model.proofs.Lists.{change-here, change-elsewhere, change-same, slice_get-each, same_elements}
-use Rattle.law_rules.proofs.law_walk.Counted.{PipesUpTo-more}
+use Rattle.law_rules.proofs.Counted.{PipesUpTo-more}
 use Rattle.law_rules.proofs.Counting.{on_raise-up}
 use Rattle.evm_settle.specs.Nudges.{nudge_one, nudge_if}
 

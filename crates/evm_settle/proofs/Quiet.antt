@@ -21,7 +21,7 @@ use Rattle.evm_model.specs.declared.task.Wait.TheVariants.{Line}
 use Rattle.evm_parts.specs.evm_ready.Oob.{has_oob}
 use Rattle.law_rules.proofs.Firsts.{best-is_oob}
 use Rattle.law_rules.proofs.Waking.{wait-wakes}
-use Rattle.law_rules.proofs.law_walk.Twice.{change-twice}
+use Rattle.law_rules.proofs.Twice.{change-twice}
 use Rattle.evm_settle.specs.Steps.{choose}
 
 -- no task is ready out-of-band

@@ -10,8 +10,8 @@ use Rattle.evm_model.specs.Timers.{expire_timers}
 use Rattle.evm_model.specs.declared.action.Action.{Action}
 use Rattle.evm_model.specs.declared.stage.Stage.{Stage}
 use Rattle.evm_model.specs.declared.stage.Stage.TheVariants.{InBand}
-use Rattle.law_rules.proofs.law_walk.Counted.{PipesUpTo-more}
-use Rattle.law_rules.proofs.law_walk.Playing.{act_apart, spend_apart, timers_apart, waits_apart}
+use Rattle.law_rules.proofs.Counted.{PipesUpTo-more}
+use Rattle.law_rules.proofs.PlayingWalks.{act_apart, spend_apart, timers_apart, waits_apart}
 use Rattle.law_rules.proofs.Counting.{on_play-up}
 use Rattle.law_rules.proofs.Spending.{end_waits-gives, expire_timers-gives, act-gives, of-spends, watch-gives}
 

@@ -14,7 +14,7 @@ use Rattle.evm_model.specs.declared.limits.TheConstants.{PROCESSOR_LIMIT}
 use Rattle.evm_model.specs.declared.processor.Processor.{Processor}
 use Rattle.law_rules.proofs.Bounded.{AreWithin, within-more, within-settle_oob, within-settle_in_band}
 use Rattle.law_rules.proofs.Firsts.{best-is_oob}
-use Rattle.law_rules.proofs.law_walk.Counted.{PipesUpTo-more}
+use Rattle.law_rules.proofs.Counted.{PipesUpTo-more}
 use Rattle.evm_settle.proofs.Unwatched.{unwatched, watches-choose, watches-settle_in_band}
 use Rattle.evm_settle.specs.Steps.{play_oob_pipe, chooses, choose}
 

@@ -1,3 +1,4 @@
+pub mod Diagnostic
 pub mod Known
 pub mod Reads
 pub mod Writes

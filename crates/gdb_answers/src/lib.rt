@@ -3,9 +3,9 @@
 #![tactic(auto)]
 
 mod answering;
-mod desk;
 mod monitor;
 mod questions;
+mod response;
 mod resuming;
 mod serving;
 mod session;

@@ -8,7 +8,7 @@ ghost use Rattle.gdb_answers.specs.Written.{Extends, acknowledgement};
 ghost use Rattle.gdb_tape.specs.Tape.{KeepsTape};
 
 use crate::answering::answer;
-use crate::desk::{Desk, new_desk, push_none, push_packets, push_sign};
+use crate::response::{Response, new_response, push_none, push_packets, push_sign};
 use crate::session::{Booting, GdbSession};
 use crate::starting::{has_reply, pause_of, waits_for_boot};
 use evm_room::NoMemory;
@@ -42,15 +42,15 @@ fn answer_command<I: Interrupts>(
     command: Command,
     behind: &[u8],
     interrupts: &I,
-    desk: &mut Desk,
+    response: &mut Response,
 ) -> Result<(), NoMemory>
-    ensures points { OnOk result (IfSome (points_asked session.old.tape.machine session.old.points command) (λ outcome. ArePointsSet reply outcome session.old.points session.new.points desk.old.out.items desk.new.out.items)) }
-    ensures done { OnOk result (IfSome (asked session.old.looked behind.now session.old.tape.machine command) (λ events. IsCarriedOut reply events session.old.tape.machine session.new.tape.machine desk.old.out.items desk.new.out.items)) }
+    ensures points { OnOk result (IfSome (points_asked session.old.tape.machine session.old.points command) (λ outcome. ArePointsSet reply outcome session.old.points session.new.points response.old.out.items response.new.out.items)) }
+    ensures done { OnOk result (IfSome (asked session.old.looked behind.now session.old.tape.machine command) (λ events. IsCarriedOut reply events session.old.tape.machine session.new.tape.machine response.old.out.items response.new.out.items)) }
     ensures kept { KeepsTape session.old.tape session.new.tape }
-    ensures extends { OnOk result (Extends desk.old.out.items desk.new.out.items) }
+    ensures extends { OnOk result (Extends response.old.out.items response.new.out.items) }
 {
-    desk.told.clear();
-    desk.answer.clear();
+    response.told.clear();
+    response.answer.clear();
     let silent = !has_reply(session.extended, command);
     match answer(
         alloc,
@@ -58,11 +58,11 @@ fn answer_command<I: Interrupts>(
         command,
         behind,
         interrupts,
-        &mut desk.data,
-        &mut desk.told,
-        &mut desk.answer,
+        &mut response.data,
+        &mut response.told,
+        &mut response.answer,
     ) {
-        Ok(()) => push_packets(desk, silent),
+        Ok(()) => push_packets(response, silent),
         Err(NoMemory) => Err(NoMemory),
     }
 }
@@ -74,20 +74,20 @@ fn answer_payload<I: Interrupts>(
     session: &mut GdbSession,
     payload: &[u8],
     interrupts: &I,
-    desk: &mut Desk,
+    response: &mut Response,
 ) -> Result<(), NoMemory>
-    ensures points { OnOk result (IfSome (payload_points payload.now session.old.tape.machine session.old.points) (λ outcome. ArePointsSet reply outcome session.old.points session.new.points desk.old.out.items desk.new.out.items)) }
-    ensures done { OnOk result (IfSome (payload_asked session.old.looked payload.now session.old.tape.machine) (λ events. IsCarriedOut reply events session.old.tape.machine session.new.tape.machine desk.old.out.items desk.new.out.items)) }
+    ensures points { OnOk result (IfSome (payload_points payload.now session.old.tape.machine session.old.points) (λ outcome. ArePointsSet reply outcome session.old.points session.new.points response.old.out.items response.new.out.items)) }
+    ensures done { OnOk result (IfSome (payload_asked session.old.looked payload.now session.old.tape.machine) (λ events. IsCarriedOut reply events session.old.tape.machine session.new.tape.machine response.old.out.items response.new.out.items)) }
     ensures kept { KeepsTape session.old.tape session.new.tape }
-    ensures extends { OnOk result (Extends desk.old.out.items desk.new.out.items) }
+    ensures extends { OnOk result (Extends response.old.out.items response.new.out.items) }
     ensures unknown { command_at payload.now ≡ Option.None → session.new ≡ session.old }
-    ensures empty { command_at payload.now ≡ Option.None → OnOk result (desk.new.out.items ≡ desk.old.out.items ++ framed []) }
+    ensures empty { command_at payload.now ≡ Option.None → OnOk result (response.new.out.items ≡ response.old.out.items ++ framed []) }
 {
     match read_command(payload) {
         Some((command, behind)) => answer_command(
-            alloc, session, command, behind, interrupts, desk,
+            alloc, session, command, behind, interrupts, response,
         ),
-        None => push_none(&mut desk.out),
+        None => push_none(&mut response.out),
     }
 }
 
@@ -99,24 +99,21 @@ fn hear<I: Interrupts>(
     item: PacketItem,
     payload: &[u8],
     interrupts: &I,
-    desk: &mut Desk,
+    response: &mut Response,
 ) -> Result<(), NoMemory>
-    ensures points { item ≡ PacketItem.Packet → OnOk result (IfSome (payload_points payload.now session.old.tape.machine session.old.points) (λ outcome. ArePointsSet reply outcome session.old.points session.new.points (acknowledgement session.old.acknowledges item) desk.new.out.items)) }
-    ensures done { item ≡ PacketItem.Packet → OnOk result (IfSome (payload_asked session.old.looked payload.now session.old.tape.machine) (λ events. IsCarriedOut reply events session.old.tape.machine session.new.tape.machine (acknowledgement session.old.acknowledges item) desk.new.out.items)) }
+    ensures points { item ≡ PacketItem.Packet → OnOk result (IfSome (payload_points payload.now session.old.tape.machine session.old.points) (λ outcome. ArePointsSet reply outcome session.old.points session.new.points (acknowledgement session.old.acknowledges item) response.new.out.items)) }
+    ensures done { item ≡ PacketItem.Packet → OnOk result (IfSome (payload_asked session.old.looked payload.now session.old.tape.machine) (λ events. IsCarriedOut reply events session.old.tape.machine session.new.tape.machine (acknowledgement session.old.acknowledges item) response.new.out.items)) }
     ensures kept { KeepsTape session.old.tape session.new.tape }
-    ensures acknowledged { OnOk result (Extends (acknowledgement session.old.acknowledges item) desk.new.out.items) }
+    ensures acknowledged { OnOk result (Extends (acknowledgement session.old.acknowledges item) response.new.out.items) }
     ensures others { item ≢ PacketItem.Packet → session.new ≡ session.old }
-    ensures sign { item ≢ PacketItem.Packet → OnOk result (desk.new.out.items ≡ acknowledgement session.old.acknowledges item) }
+    ensures sign { item ≢ PacketItem.Packet → OnOk result (response.new.out.items ≡ acknowledgement session.old.acknowledges item) }
     ensures unknown { item ≡ PacketItem.Packet → command_at payload.now ≡ Option.None → session.new ≡ session.old }
-    ensures empty { item ≡ PacketItem.Packet → command_at payload.now ≡ Option.None → OnOk result (desk.new.out.items ≡ acknowledgement session.old.acknowledges item ++ framed []) }
+    ensures empty { item ≡ PacketItem.Packet → command_at payload.now ≡ Option.None → OnOk result (response.new.out.items ≡ acknowledgement session.old.acknowledges item ++ framed []) }
 {
-    desk.out.clear();
-    match push_sign(session.acknowledges, item, &mut desk.out) {
-        Ok(()) => {}
-        Err(NoMemory) => return Err(NoMemory),
-    }
+    response.out.clear();
+    push_sign(session.acknowledges, item, &mut response.out)?;
     match item {
-        PacketItem::Packet => answer_payload(alloc, session, payload, interrupts, desk),
+        PacketItem::Packet => answer_payload(alloc, session, payload, interrupts, response),
         _ => Ok(()),
     }
 }
@@ -137,15 +134,15 @@ fn prepare<I: Interrupts>(
     item: PacketItem,
     payload: &[u8],
     interrupts: &I,
-    desk: &mut Desk,
+    response: &mut Response,
 ) -> Result<(), NoMemory>
-    ensures points { item ≡ PacketItem.Packet → OnOk result (IfSome (payload_points payload.now session.old.tape.machine session.old.points) (λ outcome. ArePointsSet reply outcome session.old.points session.new.points (acknowledgement session.old.acknowledges item) desk.new.out.items)) }
-    ensures done { item ≡ PacketItem.Packet → OnOk result (IfSome (payload_asked session.old.looked payload.now session.old.tape.machine) (λ events. IsCarriedOut reply events session.old.tape.machine session.new.tape.machine (acknowledgement session.old.acknowledges item) desk.new.out.items)) }
+    ensures points { item ≡ PacketItem.Packet → OnOk result (IfSome (payload_points payload.now session.old.tape.machine session.old.points) (λ outcome. ArePointsSet reply outcome session.old.points session.new.points (acknowledgement session.old.acknowledges item) response.new.out.items)) }
+    ensures done { item ≡ PacketItem.Packet → OnOk result (IfSome (payload_asked session.old.looked payload.now session.old.tape.machine) (λ events. IsCarriedOut reply events session.old.tape.machine session.new.tape.machine (acknowledgement session.old.acknowledges item) response.new.out.items)) }
     ensures kept { KeepsTape session.old.tape session.new.tape }
 {
     match item {
         PacketItem::Packet | PacketItem::Damaged => hear(
-            alloc, session, item, payload, interrupts, desk,
+            alloc, session, item, payload, interrupts, response,
         ),
         _ => Ok(()),
     }
@@ -182,20 +179,20 @@ fn serve_item<W: Sink, I: Interrupts>(
     item: PacketItem,
     payload: &[u8],
     interrupts: &I,
-    desk: &mut Desk,
+    response: &mut Response,
     sink: &mut W,
 ) -> Result<(), Ended>
     ensures kept { KeepsTape session.old.tape session.new.tape }
 {
     make_way(session, item, payload);
-    match prepare(alloc, session, item, payload, interrupts, desk) {
+    match prepare(alloc, session, item, payload, interrupts, response) {
         Ok(()) => {}
         Err(NoMemory) => return Err(Ended::NoMemory),
     }
     if !is_answered(item) {
         return Ok(());
     }
-    match write_all(sink, desk.out.as_slice()) {
+    match write_all(sink, response.out.as_slice()) {
         Ok(()) => Ok(()),
         Err(fault) => Err(Ended::WriteFailed(fault)),
     }
@@ -209,7 +206,7 @@ fn serve_items<W: Sink, I: Interrupts>(
     bytes: &[u8],
     interrupts: &I,
     payload: &mut Vec<u8>,
-    desk: &mut Desk,
+    response: &mut Response,
     sink: &mut W,
 ) -> Result<usize, Ended>
     ensures kept { KeepsTape session.old.tape session.new.tape }
@@ -233,7 +230,7 @@ fn serve_items<W: Sink, I: Interrupts>(
                     item,
                     payload.as_slice(),
                     interrupts,
-                    desk,
+                    response,
                     sink,
                 ) {
                     Ok(()) => rest = after,
@@ -279,7 +276,7 @@ pub fn serve_gdb<R: Source + Interrupts, W: Sink>(
 ) -> Ended
     ensures kept { KeepsTape session.old.tape session.new.tape }
 {
-    let mut desk = new_desk(alloc);
+    let mut response = new_response(alloc);
     let mut heard = mem::replace(&mut session.heard, Vec::new(alloc));
     let mut payload = Vec::new(alloc);
     'parts: for _ in 0..u64::MAX {
@@ -289,7 +286,7 @@ pub fn serve_gdb<R: Source + Interrupts, W: Sink>(
             heard.as_slice(),
             source,
             &mut payload,
-            &mut desk,
+            &mut response,
             sink,
         ) {
             Ok(left) => keep_last(&mut heard, left),

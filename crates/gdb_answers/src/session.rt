@@ -5,7 +5,7 @@ ghost use Rattle.std.specs.Prelude.{◌≡◌, Option, OnErr, OnOk};
 
 use arrayvec::ArrayVec;
 use evm_devs::AnyDevice;
-use evm_image::Image;
+use evm_ram::Image;
 use gdb_tape::{Machine, Points, Refusal, Round, Tape, TargetHalt, Why, begin, stop_all};
 use sh_answers::Names;
 use std::alloc::Global;

@@ -2,9 +2,9 @@
 
 use evm_devs::AnyDevice;
 use evm_host::{Sink, write_all};
-use evm_image::Image;
-use evm_messages::LineFault;
+use evm_ram::Image;
 use evm_serve::InputFault;
+use evm_streams::LineFault;
 use gdb_answers::{
     Boot, CAPACITY_LIMIT, Line, LineEnd, Machine, Refusal, SIZE_LIMIT, begin, cut_line, read_line,
     run_line,

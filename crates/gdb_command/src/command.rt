@@ -6,14 +6,13 @@ use crate::booting::{NotBooted, default_boot, run_script};
 use crate::saving::save;
 use crate::words::{Job, job_of};
 use clap::ArgMatches;
-use command_lines::names_at;
 use evm_devs::AnyDevice;
 use evm_elf::read_image;
 use evm_host::{
-    Ending, Known, Message, System, USAGE, Verdict, World, ended, ended_with, image_at,
-    memory_refused, not_opened, read_all, report, text_at,
+    Ending, Input, Message, System, USAGE, Verdict, World, ended, ended_with, image_at,
+    memory_refused, names_at, not_opened, read_all, report, text_at,
 };
-use evm_image::Image;
+use evm_ram::Image;
 use evm_serve::InputFault;
 use evm_streams::{ReadFault, Source};
 use gdb_answers::{Ended, GdbSession, Interrupts, Machine, Names, Refusal, begin, serve_gdb};
@@ -48,7 +47,7 @@ fn not_booted<S: System>(
             1
         }
         NotBooted::Fault(fault) => ended_with(
-            Known::Lines(Some(image), script),
+            Input::Lines(Some(image), script),
             name,
             &Ending::Complete(Verdict::Refused(fault)),
             &mut world.errors,
@@ -87,10 +86,7 @@ fn machine_of<S: System>(
     let Some(name) = job.script else {
         return default_machine(alloc, job.image, image, world);
     };
-    let script = match text_at(alloc, name, world) {
-        Ok(script) => script,
-        Err(status) => return Err(status),
-    };
+    let script = text_at(alloc, name, world)?;
     match run_script(alloc, script.as_bytes(), image, &mut world.errors) {
         Ok(machine) => Ok(machine),
         Err(fault) => Err(not_booted(fault, name, script.as_bytes(), image, world)),

@@ -43,10 +43,7 @@ pub fn stop_all<D: Device>(machine: &mut Machine<D>) -> Result<(), Refusal>
     ensures kept { KeepsJournal machine.old machine.new }
 {
     for c in 0..machine.cpu_count() {
-        match stop(machine, c) {
-            Ok(()) => {}
-            Err(refusal) => return Err(refusal),
-        }
+        stop(machine, c)?;
     }
     Ok(())
 }
@@ -75,10 +72,7 @@ pub fn go_all<D: Device>(machine: &mut Machine<D>) -> Result<(), Refusal>
     ensures kept { KeepsJournal machine.old machine.new }
 {
     for c in 0..machine.cpu_count() {
-        match go(machine, c) {
-            Ok(()) => {}
-            Err(refusal) => return Err(refusal),
-        }
+        go(machine, c)?;
     }
     Ok(())
 }

@@ -33,10 +33,7 @@ pub fn push_registers(out: &mut Vec<u8>, hart: &Hart) -> Result<(), Refused>
     ensures ok { OnOk result (out.new.items ≡ out.old.items ++ registers_text hart.now) }
 {
     for r in 0..REGISTERS + 1 {
-        match push_word(out, register(hart, r)) {
-            Ok(()) => {}
-            Err(refused) => return Err(refused),
-        }
+        push_word(out, register(hart, r))?;
     }
     Ok(())
 }

@@ -25,10 +25,7 @@ pub fn push_threads(out: &mut Vec<u8>, count: u8) -> Result<(), Refused>
 {
     push_bytes(out, b"m")?;
     for t in 0..count {
-        match push_listed(out, t) {
-            Ok(()) => {}
-            Err(refused) => return Err(refused),
-        }
+        push_listed(out, t)?;
     }
     Ok(())
 }

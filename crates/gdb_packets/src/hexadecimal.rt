@@ -35,14 +35,8 @@ pub fn push_digits(out: &mut Vec<u8>, bytes: &[u8]) -> Result<(), Refused>
     ensures refused { IfErr result (λ asked. asked ≡ 1) }
 {
     for byte in bytes {
-        match push_byte(out, digit(*byte / 16)) {
-            Ok(()) => {}
-            Err(refused) => return Err(refused),
-        }
-        match push_byte(out, digit(*byte % 16)) {
-            Ok(()) => {}
-            Err(refused) => return Err(refused),
-        }
+        push_byte(out, digit(*byte / 16))?;
+        push_byte(out, digit(*byte % 16))?;
     }
     Ok(())
 }

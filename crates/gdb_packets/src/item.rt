@@ -88,10 +88,7 @@ fn read_payload(body: &[u8], payload: &mut Vec<u8>) -> Result<bool, Refused>
         } else if byte == ESCAPE {
             escape = true;
         } else {
-            match push_byte(payload, byte) {
-                Ok(()) => {}
-                Err(refused) => return Err(refused),
-            }
+            push_byte(payload, byte)?;
         }
         rest = after;
     }

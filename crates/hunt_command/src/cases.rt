@@ -7,8 +7,8 @@ use evm_host::{System, World, memory_refused};
 use evm_room::{NoMemory, Refused, push_text};
 use hunt_search::{Errors, Found, Wanted};
 use std::alloc::Global;
+use text_markup::{CaseEnd, Suite};
 use text_symbols::Names;
-use text_xml::{CaseEnd, Suite};
 
 /// The kinds of failures, in the order of their cases.
 const KINDS: [&str; 25] = [

@@ -6,9 +6,8 @@ use crate::results::{Hunted, tell};
 use crate::telling::Telling;
 use crate::words::{Options, Search, WordFault, options_of};
 use clap::ArgMatches;
-use command_lines::names_at;
-use evm_host::{FAILED, Message, System, USAGE, World, image_at, memory_refused, report};
-use evm_image::Image;
+use evm_host::{FAILED, Message, System, USAGE, World, image_at, memory_refused, names_at, report};
+use evm_ram::Image;
 use hunt_search::{
     BeginFault, Boot, HuntStop, Plan, Report, SearchSpan, Switching, Way, first_choices,
     first_length, hunt, hunt_all,

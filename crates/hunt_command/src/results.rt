@@ -4,12 +4,11 @@ use crate::PROGRAM;
 use crate::cases::Cases;
 use crate::files::write_files;
 use crate::words::Options;
-use command_lines::show;
-use evm_host::{Message, System, World, memory_refused, report as report_message};
-use evm_image::Image;
+use evm_host::{Message, System, World, memory_refused, report as report_message, show};
 use evm_lines::{LINES, LineSet};
-use evm_messages::Numeral;
+use evm_ram::Image;
 use evm_room::NoMemory;
+use evm_streams::Numeral;
 use hunt_search::{
     Boot, Found, HuntStop, Report, Row, SearchSpan, counts_text, row_text, schedule_text, shortest,
 };

@@ -2,8 +2,7 @@
 
 use crate::PROGRAM;
 use crate::progress::HuntClock;
-use command_lines::show;
-use evm_host::{System, World, memory_refused};
+use evm_host::{System, World, memory_refused, show};
 use hunt_search::{Onlooker, Row, row_text};
 use std::alloc::Global;
 use text_symbols::Names;

@@ -235,10 +235,7 @@ pub(crate) fn options_of<'a>(matches: &ArgMatches<'a>) -> Result<Options<'a>, Wo
     let Some(image) = matches.get_str("IMAGE") else {
         return Err(WordFault::Missing);
     };
-    let seconds = match seconds_of(matches) {
-        Ok(seconds) => seconds,
-        Err(fault) => return Err(fault),
-    };
+    let seconds = seconds_of(matches)?;
     let (first, last) = seeds_of(matches);
     if last < first {
         return Err(WordFault::Seeds);

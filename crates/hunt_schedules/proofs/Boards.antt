@@ -10,12 +10,13 @@ use Rattle.evm_model.specs.State.{Board, State}
 use Rattle.evm_model.specs.declared.event.Answer.{Answer}
 use Rattle.evm_model.specs.declared.event.Event.TheVariants.{Step, Tick, Raise, Bell, Stop, Go, StepI, SetReg, SetPc, Poke, Break, Unbreak}
 use Rattle.evm_model.specs.declared.task.Task.{Task}
-use Rattle.hunt_schedules.specs.Failures.{Fails, FailsAsWanted, IsAbandoned, IsCaller, IsDeadlock, IsDemoted, IsNoticed, IsOverrun, IsRefused, faulted_at, is_quiet_pipe, is_wanted, is_stuck_task, is_waiting_task, is_zero}
-use Rattle.hunt_schedules.specs.Making.{IsAwake, IsOver, MayMake, is_done, is_ready_on}
-use Rattle.hunt_schedules.specs.declared.failure.Failure.{Failure}
-use Rattle.hunt_schedules.specs.declared.failure.Failure.TheVariants as failures
-use Rattle.hunt_schedules.specs.declared.wanted.Wanted.{Wanted}
-use Rattle.hunt_switches.specs.Covering.{LookAtBoards}
+use Rattle.hunt_failures.specs.Failures.{Fails, FailsAsWanted, IsAbandoned, IsCaller, IsDeadlock, IsDemoted, IsNoticed, IsOverrun, IsRefused, faulted_at, is_quiet_pipe, is_wanted, is_stuck_task, is_waiting_task, is_zero}
+use Rattle.hunt_failures.specs.Awake.{IsAwake, IsOver, is_done, is_ready_on}
+use Rattle.hunt_schedules.specs.Making.{MayMake}
+use Rattle.hunt_failures.specs.declared.failure.Failure.{Failure}
+use Rattle.hunt_failures.specs.declared.failure.Failure.TheVariants as failures
+use Rattle.hunt_failures.specs.declared.wanted.Wanted.{Wanted}
+use Rattle.hunt_schedules.specs.Covering.{LookAtBoards}
 
 -- ---- what may come
 awake-at : (c : ℕ) (s t : State) → s.board ≡ t.board → IsAwake c s → IsAwake c t

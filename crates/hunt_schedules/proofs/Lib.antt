@@ -1,3 +1,7 @@
-pub mod Failing
-pub mod Lists
+pub mod Searching
+pub mod Walking
+pub mod Covering
+pub mod Closing
+pub mod Going
 pub mod Boards
+pub mod Advancing

@@ -1,5 +1,8 @@
 pub mod Beginning
-pub mod Eves
-pub mod Failures
+pub mod Schedules
+pub mod Branches
+pub mod Walks
+pub mod Covering
+pub mod Searches
 pub mod Making
 pub mod Runs

@@ -1,14 +1,14 @@
 -- What a run finds.
 use Rattle.std.specs.Prelude.{◌≡◌, List, ℕ, Ok, ⊤}
-use Rattle.evm_image.specs.Images.{Contents}
+use Rattle.evm_ram.specs.Images.{Contents}
 use Rattle.evm_model.specs.Event.{Event}
 use Rattle.evm_model.specs.Replay.{apply}
 use Rattle.evm_model.specs.State.{State}
 use Rattle.evm_model.specs.declared.boot.Boot.{Boot}
 use Rattle.evm_model.specs.declared.event.Answer.{Answer}
 use Rattle.hunt_schedules.specs.Beginning.{ComesFrom}
-use Rattle.hunt_schedules.specs.Failures.{Fails}
-use Rattle.hunt_schedules.specs.declared.failure.Failure.{Failure}
+use Rattle.hunt_failures.specs.Failures.{Fails}
+use Rattle.hunt_failures.specs.declared.failure.Failure.{Failure}
 use Rattle.hunt_schedules.specs.declared.running.RunOutcome.{RunOutcome}
 use Rattle.hunt_schedules.specs.declared.running.RunOutcome.TheVariants.{Failed, Over, Full}
 

@@ -5,9 +5,8 @@ ghost use Rattle.evm_model.specs.Replay.{IsReplayOf};
 ghost use Rattle.hunt_schedules.specs.Beginning.{Begins};
 
 use evm_core::{Boot, Machine, Refusal};
-use evm_devs::AnyDevice;
-use evm_image::Image;
-use evm_program::program_devices;
+use evm_devs::{AnyDevice, program_devices};
+use evm_ram::Image;
 use std::alloc::Global;
 
 /// Why no run begins.

@@ -4,12 +4,12 @@ ghost use Rattle.std.specs.Prelude.{◌<◌, ◌≤◌};
 
 use crate::private::is_private_step;
 use crate::random::Random;
-use crate::waking::{Awake, awake_processors, is_over};
 use arrayvec::ArrayVec;
 use evm_core::Machine;
 use evm_devs::AnyDevice;
 use evm_lines::LineSet;
 use evm_model::{Event, NoBytes, PROCESSOR_LIMIT};
+use hunt_failures::{Awake, awake_processors, is_over};
 
 /// The most change points of a schedule.
 pub const POINT_LIMIT: usize = 32;

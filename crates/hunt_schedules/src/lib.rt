@@ -1,34 +1,29 @@
-//! Schedules of a machine: what may come next, what is chosen by a seed, and when a run has failed.
+//! Schedules of a machine: what may come next, what is chosen by a seed, the branches by which all schedules of few switches are looked
+//! at, and runs up to a failure.
 #![tactic(auto)]
 
 mod beginning;
-mod calls;
+mod branch;
 mod chooser;
-mod eve;
-mod expiries;
-mod failure;
-mod leaving;
-mod lines;
-mod looks;
-mod monitor;
+mod ordering;
 mod private;
+mod queue;
 mod random;
-mod rounds;
 mod running;
-mod stages;
-mod waking;
-mod wanted;
+mod schedule;
+mod stop;
 
 pub use beginning::{BeginFault, begin};
+pub use branch::{Branch, Choice, CpuTurn, SWITCH_LIMIT};
 pub use chooser::{Chooser, POINT_LIMIT, Way};
 pub use evm_core::{Boot, Machine};
-pub use evm_devs::AnyDevice;
+pub use evm_devs::{AnyDevice, program_devices};
 pub use evm_model::{CAPACITY_LIMIT, Event, NoBytes};
-pub use evm_program::program_devices;
 pub use evm_ram::SIZE_LIMIT;
-pub use failure::{Failure, failure_address};
-pub use looks::is_deadlock;
-pub use monitor::Monitor;
+pub use ordering::{Cycle, Orders};
+pub use queue::Queue;
 pub use running::{RunOutcome, advance, play, run_schedule};
-pub use waking::{Awake, awake_processors, is_over};
-pub use wanted::{Errors, Inversion, Wanted};
+pub use schedule::{
+    EventList, Stretch, Stretches, event_count, events_of, push_stretch, schedule_of,
+};
+pub use stop::HuntStop;

@@ -1,8 +1,8 @@
 //! Steps that no other processor can see.
 
-use crate::failure::current;
 use evm_core::Machine;
 use evm_devs::AnyDevice;
+use hunt_failures::current;
 
 /// The opcode of loads, in the low seven bits of an instruction.
 const LOAD: u8 = 0x03;

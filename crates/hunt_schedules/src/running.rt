@@ -5,17 +5,14 @@ ghost use Rattle.evm_model.specs.Event.{short_event};
 ghost use Rattle.evm_model.specs.Replay.{apply, IsReplayOf};
 ghost use Rattle.evm_model.specs.State.{State};
 ghost use Rattle.evm_model.specs.declared.event.Answer.{Answer};
-ghost use Rattle.hunt_schedules.specs.Failures.{IsSeen};
+ghost use Rattle.hunt_failures.specs.Failures.{IsSeen};
 ghost use Rattle.hunt_schedules.specs.Runs.{Ends, HasFailed};
 
 use crate::chooser::Chooser;
-use crate::eve::{eve_of, looked};
-use crate::failure::Failure;
-use crate::monitor::Monitor;
-use crate::wanted::Wanted;
 use evm_core::{Machine, Refusal};
 use evm_devs::AnyDevice;
 use evm_model::{Event, NoBytes};
+use hunt_failures::{Failure, Monitor, Wanted, eve_of, looked};
 
 /// How a run ended.
 #[derive(Clone, Copy, Debug, PartialEq, Eq)]

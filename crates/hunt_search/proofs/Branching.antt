@@ -3,7 +3,7 @@ use Rattle.std.proofs.Common.{◌≡◌, ℕ, zero, suc, ◌+◌, ◌<◌, ◌�
 use Rattle.std.specs.Prelude.{map, replicate, slice_get}
 use Rattle.std.proofs.lemmas.Option.{slice_get_within}
 use Rattle.std.proofs.lemmas.List.{append-nil}
-use Rattle.evm_image.specs.Images.{Contents}
+use Rattle.evm_ram.specs.Images.{Contents}
 use Rattle.evm_dev.specs.declared.kind.Kind.{Kind}
 use Rattle.evm_model.specs.Devices.{Attached}
 use Rattle.evm_model.specs.Event.{Event}
@@ -14,22 +14,22 @@ use Rattle.evm_model.specs.declared.event.Event.TheVariants.{Step}
 use Rattle.hunt_search.specs.Searches.{EndsBranch, is_failed}
 use Rattle.hunt_search.proofs.Making.{are-choices}
 use Rattle.hunt_schedules.specs.Beginning.{Begins}
-use Rattle.hunt_schedules.specs.Failures.{FailsAsWanted}
+use Rattle.hunt_failures.specs.Failures.{FailsAsWanted}
 use Rattle.hunt_schedules.specs.Making.{MayMake, NeverFails}
 use Rattle.hunt_schedules.specs.Runs.{Ends}
 use Rattle.hunt_schedules.specs.declared.running.RunOutcome.{RunOutcome}
 use Rattle.hunt_schedules.specs.declared.running.RunOutcome.TheVariants.{Failed, Over, Full}
-use Rattle.hunt_schedules.specs.declared.wanted.Wanted.{Wanted}
+use Rattle.hunt_failures.specs.declared.wanted.Wanted.{Wanted}
 use Rattle.hunt_schedules.proofs.Boards.{look-at-boards}
-use Rattle.hunt_switches.proofs.Closing.{GoesFarther, searched, searched-still}
-use Rattle.hunt_switches.proofs.Going.{at-last, front-still, more-goes, walked-more, walked-out, searched-by}
-use Rattle.hunt_switches.proofs.Searching.{replay-append}
-use Rattle.hunt_switches.proofs.Walking.{reached-none, reached-step}
-use Rattle.hunt_switches.specs.Branches.{KeepsBranches, events_of_turns}
-use Rattle.hunt_switches.specs.Searches.{AreSearched, HasWalked, IsPassed, IsSearched, IsWalked}
-use Rattle.hunt_switches.specs.Walks.{AreForked, CantStep, HasPassed, HasStepped, IsReached}
-use Rattle.hunt_switches.specs.declared.branch.Branch.{Branch}
-use Rattle.hunt_switches.specs.declared.branch.CpuTurn.{CpuTurn}
+use Rattle.hunt_schedules.proofs.Closing.{GoesFarther, searched, searched-still}
+use Rattle.hunt_schedules.proofs.Going.{at-last, front-still, more-goes, walked-more, walked-out, searched-by}
+use Rattle.hunt_schedules.proofs.Searching.{replay-append}
+use Rattle.hunt_schedules.proofs.Walking.{reached-none, reached-step}
+use Rattle.hunt_schedules.specs.Branches.{KeepsBranches, events_of_turns}
+use Rattle.hunt_schedules.specs.Searches.{AreSearched, HasWalked, IsPassed, IsSearched, IsWalked}
+use Rattle.hunt_schedules.specs.Walks.{AreForked, CantStep, HasPassed, HasStepped, IsReached}
+use Rattle.hunt_schedules.specs.declared.branch.Branch.{Branch}
+use Rattle.hunt_schedules.specs.declared.branch.CpuTurn.{CpuTurn}
 
 pub ends-branch : (wanted : Wanted) (branch : Branch) (before after : State) (outcome : RunOutcome) → EndsBranch wanted branch before after outcome → Ends wanted.lines outcome after
 ends-branch wanted branch before after (Failed failure) h = h

@@ -2,11 +2,11 @@
 use Rattle.std.proofs.Common.{◌≡◌, ℕ, List, [], ◌∷◌, ◌++◌, Option, Some, None, subst, sym, ◌∙◌}
 use Rattle.std.specs.Prelude.{All}
 use Rattle.std.proofs.lemmas.List.Elements.{All-append, All-cons, All-nil}
-use Rattle.evm_image.specs.Images.{Contents}
+use Rattle.evm_ram.specs.Images.{Contents}
 use Rattle.evm_model.specs.State.{State}
 use Rattle.evm_model.specs.declared.boot.Boot.{Boot}
 use Rattle.hunt_schedules.specs.Runs.{IsFound}
-use Rattle.hunt_schedules.specs.declared.failure.Failure.{Failure}
+use Rattle.hunt_failures.specs.declared.failure.Failure.{Failure}
 use Rattle.hunt_search.specs.Hunts.{AreFound, IsMet}
 use Rattle.hunt_search.specs.declared.hunting.Row.{Row}
 

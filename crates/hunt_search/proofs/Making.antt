@@ -8,18 +8,19 @@ use Rattle.evm_model.specs.State.{State}
 use Rattle.evm_model.specs.declared.event.Answer.{Answer}
 use Rattle.evm_model.specs.declared.event.Event.TheVariants.{Step, Tick, Raise, Bell, Stop, Go, StepI, SetReg, SetPc, Poke, Break, Unbreak}
 use Rattle.evm_model.specs.declared.refusal.Refusal.{Refusal}
-use Rattle.hunt_schedules.specs.Failures.{FailsAsWanted, IsSeen}
-use Rattle.hunt_schedules.specs.Making.{IsAwake, IsOver, MayMake}
-use Rattle.hunt_schedules.specs.declared.failure.Failure.{Failure}
-use Rattle.hunt_schedules.specs.declared.wanted.Wanted.{Wanted}
-use Rattle.hunt_switches.proofs.Searching.{replay-one}
-use Rattle.hunt_switches.proofs.Walking.{AreChoices}
-use Rattle.hunt_switches.specs.Branches.{event_of_choice, HasBranch, HasSwitches, IsSwitch, forked}
-use Rattle.hunt_switches.specs.Schedules.{switches}
-use Rattle.hunt_switches.specs.Walks.{AreForked, CantStep, HasPassed}
-use Rattle.hunt_switches.specs.declared.branch.Branch.{Branch}
-use Rattle.hunt_switches.specs.declared.branch.Choice.{Choice}
-use Rattle.hunt_switches.specs.declared.branch.Choice.TheVariants as choices
+use Rattle.hunt_failures.specs.Failures.{FailsAsWanted, IsSeen}
+use Rattle.hunt_failures.specs.Awake.{IsAwake, IsOver}
+use Rattle.hunt_schedules.specs.Making.{MayMake}
+use Rattle.hunt_failures.specs.declared.failure.Failure.{Failure}
+use Rattle.hunt_failures.specs.declared.wanted.Wanted.{Wanted}
+use Rattle.hunt_schedules.proofs.Searching.{replay-one}
+use Rattle.hunt_schedules.proofs.Walking.{AreChoices}
+use Rattle.hunt_schedules.specs.Branches.{event_of_choice, HasBranch, HasSwitches, IsSwitch, forked}
+use Rattle.hunt_schedules.specs.Schedules.{switches}
+use Rattle.hunt_schedules.specs.Walks.{AreForked, CantStep, HasPassed}
+use Rattle.hunt_schedules.specs.declared.branch.Branch.{Branch}
+use Rattle.hunt_schedules.specs.declared.branch.Choice.{Choice}
+use Rattle.hunt_schedules.specs.declared.branch.Choice.TheVariants as choices
 
 pub are-choices : (lines : List ℕ) → AreChoices (MayMake lines)
 are-choices lines s (Step c) may = (choices.Step c, refl)

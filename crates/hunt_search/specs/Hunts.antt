@@ -1,10 +1,10 @@
 -- What a hunt finds.
 use Rattle.std.specs.Prelude.{List, ℕ, Option, Some, None, All, ⊤}
-use Rattle.evm_image.specs.Images.{Contents}
+use Rattle.evm_ram.specs.Images.{Contents}
 use Rattle.evm_model.specs.State.{State}
 use Rattle.evm_model.specs.declared.boot.Boot.{Boot}
 use Rattle.hunt_schedules.specs.Runs.{IsFound}
-use Rattle.hunt_schedules.specs.declared.failure.Failure.{Failure}
+use Rattle.hunt_failures.specs.declared.failure.Failure.{Failure}
 use Rattle.hunt_search.specs.declared.hunting.Row.{Row}
 
 -- a machine has failed so, and is the replay of its journal from the boot with the image

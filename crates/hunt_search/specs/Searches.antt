@@ -1,14 +1,14 @@
 -- What a search of all schedules does with one branch.
 use Rattle.std.specs.Prelude.{◌≡◌, Bool, true, false}
 use Rattle.evm_model.specs.State.{State}
-use Rattle.hunt_schedules.specs.Failures.{FailsAsWanted}
+use Rattle.hunt_failures.specs.Failures.{FailsAsWanted}
 use Rattle.hunt_schedules.specs.Making.{MayMake}
 use Rattle.hunt_schedules.specs.Runs.{HasFailed}
 use Rattle.hunt_schedules.specs.declared.running.RunOutcome.{RunOutcome}
 use Rattle.hunt_schedules.specs.declared.running.RunOutcome.TheVariants.{Failed, Over, Full}
-use Rattle.hunt_schedules.specs.declared.wanted.Wanted.{Wanted}
-use Rattle.hunt_switches.specs.Walks.{CantStep}
-use Rattle.hunt_switches.specs.declared.branch.Branch.{Branch}
+use Rattle.hunt_failures.specs.declared.wanted.Wanted.{Wanted}
+use Rattle.hunt_schedules.specs.Walks.{CantStep}
+use Rattle.hunt_schedules.specs.declared.branch.Branch.{Branch}
 
 abbrev pub is_failed : RunOutcome → Bool
 is_failed (Failed failure) = true

@@ -4,11 +4,12 @@ ghost use Rattle.std.specs.Prelude.{IfOk, IfSome};
 ghost use Rattle.hunt_schedules.specs.Runs.{IsFound};
 
 use crate::hunting::Row;
-use crate::schedule::{EventList, events_of, push_stretch};
-use crate::shortening::{HuntStop, shorten};
-use evm_image::Image;
+use crate::shortening::shorten;
+use evm_ram::Image;
+use hunt_failures::{Failure, Wanted};
 use hunt_schedules::{
-    AnyDevice, BeginFault, Boot, Event, Failure, Machine, NoBytes, RunOutcome, Wanted, begin, play,
+    AnyDevice, BeginFault, Boot, Event, EventList, HuntStop, Machine, NoBytes, RunOutcome, begin,
+    events_of, play, push_stretch,
 };
 use std::alloc::Global;
 
@@ -35,10 +36,7 @@ pub fn replayed(
 ) -> Result<Option<Found>, BeginFault>
     ensures { IfOk result (λ found. IfSome found (λ found. IsFound image.now boot.now wanted.now.lines found.failure found.machine)) }
 {
-    let mut machine = match begin(alloc, image, boot) {
-        Ok(machine) => machine,
-        Err(fault) => return Err(fault),
-    };
+    let mut machine = begin(alloc, image, boot)?;
     match play(&mut machine, events, wanted) {
         RunOutcome::Failed(failure) => Ok(Some(Found { machine, failure })),
         RunOutcome::Over | RunOutcome::Full => Ok(None),
@@ -78,10 +76,7 @@ pub fn shortest(
     if row.failure.is_none() {
         return Ok(None);
     }
-    let events = match shortened(alloc, image, boot, wanted, row) {
-        Ok(events) => events,
-        Err(stop) => return Err(stop),
-    };
+    let events = shortened(alloc, image, boot, wanted, row)?;
     match replayed(alloc, image, boot, events.as_slice(), wanted) {
         Ok(found) => Ok(found),
         Err(fault) => Err(HuntStop::from(fault)),

@@ -5,24 +5,22 @@ ghost use Rattle.hunt_search.specs.Searches.{is_failed};
 ghost use Rattle.evm_model.specs.Replay.{IsReplayOf};
 ghost use Rattle.evm_model.specs.State.{State};
 ghost use Rattle.hunt_schedules.specs.Beginning.{Begins};
-ghost use Rattle.hunt_schedules.specs.Failures.{FailsAsWanted};
+ghost use Rattle.hunt_failures.specs.Failures.{FailsAsWanted};
 ghost use Rattle.hunt_schedules.specs.Making.{MayMake};
 ghost use Rattle.hunt_schedules.specs.Runs.{Ends};
-ghost use Rattle.hunt_switches.specs.Branches.{KeepsBranches};
-ghost use Rattle.hunt_switches.specs.Covering.{IsCovered};
-ghost use Rattle.hunt_switches.specs.Searches.{HasWalked, IsPassed};
-ghost use Rattle.hunt_switches.specs.Walks.{IsReached};
+ghost use Rattle.hunt_schedules.specs.Branches.{KeepsBranches};
+ghost use Rattle.hunt_schedules.specs.Covering.{IsCovered};
+ghost use Rattle.hunt_schedules.specs.Searches.{HasWalked, IsPassed};
+ghost use Rattle.hunt_schedules.specs.Walks.{IsReached};
 
-use crate::hashing::hash_of;
-use crate::marks::{Mark, Marks};
 use crate::seeing::is_seen;
-use crate::shortening::HuntStop;
 use crate::switching::Switching;
 use crate::tracking::Tracker;
 use crate::walking::go_on_once;
-use evm_image::Image;
-use hunt_schedules::{AnyDevice, BeginFault, Boot, Machine, RunOutcome, Wanted};
-use hunt_switches::{Branch, Queue};
+use evm_ram::Image;
+use hunt_failures::Wanted;
+use hunt_schedules::{AnyDevice, BeginFault, Boot, Branch, HuntStop, Machine, Queue, RunOutcome};
+use hunt_states::{StateMark, StateMarks, hash_of};
 use std::alloc::Global;
 
 /// How a branch has ended, and at how many states it went on.
@@ -40,12 +38,12 @@ fn mark_of(
     wanted: &Wanted,
     tracker: &Tracker,
     place: usize,
-    marks: &mut Marks,
-) -> Option<Mark> {
+    marks: &mut StateMarks,
+) -> Option<StateMark> {
     if steps == 0 {
         marks.begin();
     }
-    if !wanted.looks_at_states() || marks.are_tired() {
+    if !wanted.looks_at_states() || marks.has_too_many_misses() {
         return None;
     }
     let hash = hash_of(machine, branch.cpu, &tracker.trail);
@@ -68,7 +66,7 @@ fn is_covered(
     tracker: &Tracker,
     queue: &Queue,
     walked: &[u32],
-    marks: &mut Marks,
+    marks: &mut StateMarks,
 ) -> Result<bool, BeginFault>
     requires { (first : State) → Begins image.now boot.now first → IsReached first branch.now steps machine.now }
     ensures { IfOk result (λ covered. covered ≡ true → (first : State) → Begins image.now boot.now first → IsCovered (IsPassed first queue.now.branches.items (walked.now ++ steps ∷ [])) machine.now branch.now.cpu (length branch.now.turns.items)) }
@@ -105,7 +103,7 @@ pub(crate) fn go_on(
     bounds: &Switching,
     queue: &mut Queue,
     walked: &[u32],
-    marks: &mut Marks,
+    marks: &mut StateMarks,
 ) -> Result<Walk, HuntStop>
     requires begins { (first : State) → Begins image.now boot.now first → IsReached first branch.now 0 machine.old }
     requires there { slice_get queue.old.branches.items (length walked.now) ≡ Option.Some branch.now }

@@ -9,14 +9,13 @@ ghost use Rattle.hunt_search.specs.Searches.{is_failed};
 use crate::asking::add_asked;
 use crate::key::FailureKey;
 use crate::onlooker::Onlooker;
-use crate::ordering::{Cycle, Orders};
-use crate::schedule::{Stretches, schedule_of};
-use crate::shortening::HuntStop;
-use evm_image::Image;
 use evm_lines::LineSet;
+use evm_ram::Image;
 use evm_room::NoMemory;
+use hunt_failures::{Failure, Wanted};
 use hunt_schedules::{
-    AnyDevice, Boot, Chooser, Failure, Machine, RunOutcome, Wanted, Way, begin, run_schedule,
+    AnyDevice, Boot, Chooser, Cycle, HuntStop, Machine, Orders, RunOutcome, Stretches, Way, begin,
+    run_schedule, schedule_of,
 };
 use std::alloc::Global;
 
@@ -256,10 +255,7 @@ pub(crate) fn note<O: Onlooker>(
     ensures none { OnOk result (report.new.rows.items ≡ [] → is_failed outcome ≡ false) }
 {
     report.count(machine, outcome);
-    match add_orders(alloc, image, boot, wanted, seed, machine, report, onlooker) {
-        Ok(()) => {}
-        Err(stop) => return Err(stop),
-    }
+    add_orders(alloc, image, boot, wanted, seed, machine, report, onlooker)?;
     match outcome {
         RunOutcome::Failed(failure) => add_failure(
             alloc, image, boot, wanted, seed, machine, failure, report, onlooker,
@@ -311,7 +307,7 @@ pub fn hunt<O: Onlooker>(
 {
     let mut report = Report::new(alloc, plan.orders);
     'seeds: for seed in plan.first..=plan.last {
-        match look(
+        look(
             alloc,
             image,
             boot,
@@ -320,10 +316,7 @@ pub fn hunt<O: Onlooker>(
             seed,
             &mut report,
             onlooker,
-        ) {
-            Ok(()) => {}
-            Err(stop) => return Err(stop),
-        }
+        )?;
         if !onlooker.goes_on(report.schedules, report.rows.len() as u64) {
             return Ok(report);
         }

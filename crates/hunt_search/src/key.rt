@@ -1,7 +1,9 @@
 //! Which failures are one.
 
+use crate::place::failure_address;
 use evm_model::{Errno, NoticeKind};
-use hunt_schedules::{AnyDevice, Failure, Machine, failure_address};
+use hunt_failures::Failure;
+use hunt_schedules::{AnyDevice, Machine};
 
 /// The name of an error, as Linux has it.
 fn error_name(error: Errno) -> &'static str {

@@ -4,14 +4,11 @@
 mod asking;
 mod found;
 mod going;
-mod hashing;
 mod hunting;
 mod key;
-mod marks;
 mod onlooker;
-mod ordering;
+mod place;
 mod reporting;
-mod schedule;
 mod script;
 mod seeing;
 mod shortening;
@@ -20,15 +17,15 @@ mod tracking;
 mod walking;
 
 pub use found::{Found, replayed, shortest};
+pub use hunt_failures::{Errors, Failure, Inversion, Wanted};
 pub use hunt_schedules::{
-    BeginFault, Boot, CAPACITY_LIMIT, Errors, Failure, Inversion, Machine, SIZE_LIMIT, Wanted, Way,
+    BeginFault, Boot, CAPACITY_LIMIT, Cycle, EventList, HuntStop, Machine, Orders, SIZE_LIMIT,
+    Stretch, Stretches, Way,
 };
 pub use hunting::{Plan, Report, Row, SearchSpan, first_choices, first_length, hunt};
 pub use key::{FailureKey, kind_name};
 pub use onlooker::Onlooker;
-pub use ordering::{Cycle, Orders};
 pub use reporting::{counts_text, row_text, schedule_text};
-pub use schedule::{EventList, Stretch, Stretches};
 pub use script::{failing_script, journal_text};
-pub use shortening::{HuntStop, PLAY_LIMIT, PLAYED_LIMIT, shorten};
+pub use shortening::{PLAY_LIMIT, PLAYED_LIMIT, shorten};
 pub use switching::{Switching, hunt_all};

@@ -6,7 +6,8 @@ use crate::key::FailureKey;
 use evm_journal::{push_decimal, push_event_line};
 use evm_room::{NoMemory, Refused, push_text};
 use evm_text::push_hexadecimal;
-use hunt_schedules::{AnyDevice, Failure, Machine};
+use hunt_failures::Failure;
+use hunt_schedules::{AnyDevice, Machine};
 use std::alloc::Global;
 use text_symbols::{CodeSpot, Names, push_code};
 

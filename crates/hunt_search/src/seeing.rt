@@ -4,18 +4,17 @@ ghost use Rattle.std.specs.Prelude.{◌≡◌, ◌<◌, ◌≤◌, ◌∷◌, �
 ghost use Rattle.evm_model.specs.Devices.{Attached};
 ghost use Rattle.evm_model.specs.State.{State};
 ghost use Rattle.hunt_schedules.specs.Beginning.{Begins};
-ghost use Rattle.hunt_switches.specs.Covering.{Subsumes, IsCovered};
-ghost use Rattle.hunt_switches.specs.Searches.{IsPassed};
-ghost use Rattle.hunt_switches.specs.Walks.{IsReached};
+ghost use Rattle.hunt_schedules.specs.Covering.{Subsumes, IsCovered};
+ghost use Rattle.hunt_schedules.specs.Searches.{IsPassed};
+ghost use Rattle.hunt_schedules.specs.Walks.{IsReached};
 
-use crate::marks::Mark;
 use crate::tracking::Tracker;
 use crate::walking::{begin_with, take_steps};
 use claims_machine::device_kinds_never_change;
-use evm_image::Image;
-use hunt_same::have_same_boards;
-use hunt_schedules::{AnyDevice, BeginFault, Boot, Machine, Wanted, begin};
-use hunt_switches::{Branch, Queue};
+use evm_ram::Image;
+use hunt_failures::Wanted;
+use hunt_schedules::{AnyDevice, BeginFault, Boot, Branch, Machine, Queue, begin};
+use hunt_states::{StateMark, have_same_boards};
 use std::alloc::Global;
 
 // Whether a branch makes some steps of a fresh machine, and nothing that is looked for fails.
@@ -34,7 +33,7 @@ fn goes(machine: &mut Machine<AnyDevice>, wanted: &Wanted, branch: &Branch, step
 }
 
 // Whether a branch has passed a state: those before the last of them for as many steps as were counted, the last for `steps` so far.
-fn has_passed(walked: &[u32], steps: u32, mark: Mark) -> bool
+fn has_passed(walked: &[u32], steps: u32, mark: StateMark) -> bool
     ensures { result ≡ true → (count : ℕ) × (slice_get (walked.now ++ steps ∷ []) mark.place ≡ Option.Some count) × (mark.steps < count) }
 {
     match walked.get(mark.place as usize) {
@@ -76,7 +75,7 @@ pub(crate) fn is_seen(
     steps: u32,
     queue: &Queue,
     walked: &[u32],
-    mark: Mark,
+    mark: StateMark,
 ) -> Result<bool, BeginFault>
     requires { (first : State) → Begins image.now boot.now first → IsReached first branch.now steps machine.now }
     ensures { IfOk result (λ seen. seen ≡ true → (first : State) → Begins image.now boot.now first → IsCovered (IsPassed first queue.now.branches.items (walked.now ++ steps ∷ [])) machine.now branch.now.cpu (length branch.now.turns.items)) }

@@ -1,12 +1,12 @@
 //! A failing schedule made shorter.
 
 use crate::key::FailureKey;
-use crate::schedule::{Stretch, Stretches, event_count, push_stretch, schedule_of};
-use evm_image::Image;
+use evm_ram::Image;
 use evm_room::NoMemory;
+use hunt_failures::{Failure, Monitor, Wanted, awake_processors, is_over};
 use hunt_schedules::{
-    AnyDevice, BeginFault, Boot, Event, Failure, Machine, Monitor, NoBytes, Wanted, advance,
-    awake_processors, begin, is_over,
+    AnyDevice, Boot, Event, HuntStop, Machine, NoBytes, Stretch, Stretches, advance, begin,
+    event_count, push_stretch, schedule_of,
 };
 use std::alloc::Global;
 
@@ -15,30 +15,6 @@ pub const PLAY_LIMIT: u32 = 2_000;
 
 /// How many events are played at most to make a schedule shorter.
 pub const PLAYED_LIMIT: u64 = 4_000_000;
-
-/// Why a hunt ends early.
-#[derive(Clone, Copy, Debug, PartialEq, Eq)]
-pub enum HuntStop {
-    /// Memory was refused.
-    NoMemory,
-    /// No machine boots with the image.
-    NoMachine(BeginFault),
-}
-
-impl From<NoMemory> for HuntStop {
-    fn from(_fault: NoMemory) -> HuntStop {
-        HuntStop::NoMemory
-    }
-}
-
-impl From<BeginFault> for HuntStop {
-    fn from(fault: BeginFault) -> HuntStop {
-        match fault {
-            BeginFault::NoMemory => HuntStop::NoMemory,
-            BeginFault::BadSize | BeginFault::PastRam => HuntStop::NoMachine(fault),
-        }
-    }
-}
 
 /// A schedule that fails, and what is left of the plays that may make it shorter.
 #[derive(Debug, Drop)]

@@ -6,22 +6,21 @@ ghost use Rattle.hunt_search.specs.Searches.{is_failed};
 ghost use Rattle.evm_model.specs.Replay.{IsReplayOf};
 ghost use Rattle.evm_model.specs.State.{State};
 ghost use Rattle.hunt_schedules.specs.Beginning.{Begins, ComesFrom};
-ghost use Rattle.hunt_schedules.specs.Failures.{FailsAsWanted};
+ghost use Rattle.hunt_failures.specs.Failures.{FailsAsWanted};
 ghost use Rattle.hunt_schedules.specs.Making.{MayMake, NeverFails};
 ghost use Rattle.hunt_schedules.specs.Runs.{Ends};
-ghost use Rattle.hunt_switches.specs.Branches.{KeepsBranches};
-ghost use Rattle.hunt_switches.specs.Searches.{IsPassed, IsSearched};
+ghost use Rattle.hunt_schedules.specs.Branches.{KeepsBranches};
+ghost use Rattle.hunt_schedules.specs.Searches.{IsPassed, IsSearched};
 
 use crate::going::{Walk, go_on};
 use crate::hunting::{Report, note};
-use crate::marks::Marks;
 use crate::onlooker::Onlooker;
-use crate::shortening::HuntStop;
 use crate::tracking::Tracker;
 use crate::walking::begin_with;
-use evm_image::Image;
-use hunt_schedules::{AnyDevice, Boot, Machine, RunOutcome, Wanted, begin};
-use hunt_switches::{Branch, Queue};
+use evm_ram::Image;
+use hunt_failures::Wanted;
+use hunt_schedules::{AnyDevice, Boot, Branch, HuntStop, Machine, Queue, RunOutcome, begin};
+use hunt_states::StateMarks;
 use std::alloc::Global;
 
 /// What bounds the schedules.
@@ -46,7 +45,7 @@ fn run_branch(
     bounds: &Switching,
     queue: &mut Queue,
     walked: &[u32],
-    marks: &mut Marks,
+    marks: &mut StateMarks,
 ) -> Result<Walk, HuntStop>
     requires begins { Begins image.now boot.now machine.old }
     requires fresh { IsReplayOf machine.old machine.old }
@@ -94,7 +93,7 @@ fn look_at<O: Onlooker>(
     branch: &Branch,
     queue: &mut Queue,
     walked: &[u32],
-    marks: &mut Marks,
+    marks: &mut StateMarks,
     report: &mut Report,
     onlooker: &mut O,
 ) -> Result<u32, HuntStop>
@@ -176,7 +175,7 @@ pub fn hunt_all<O: Onlooker>(
         Ok(queue) => queue,
         Err(fault) => return Err(HuntStop::from(fault)),
     };
-    let mut marks = match Marks::new(alloc) {
+    let mut marks = match StateMarks::new(alloc) {
         Ok(marks) => marks,
         Err(fault) => return Err(HuntStop::from(fault)),
     };

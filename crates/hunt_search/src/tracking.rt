@@ -1,7 +1,7 @@
 //! What is kept of a run while it goes on.
 
-use crate::hashing::Trail;
-use hunt_schedules::Monitor;
+use hunt_failures::Monitor;
+use hunt_states::Trail;
 
 /// What is counted over a run, and what it has stored.
 #[derive(Debug, Drop)]

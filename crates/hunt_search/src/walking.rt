@@ -6,22 +6,22 @@ ghost use Rattle.evm_model.specs.Replay.{IsReplayOf};
 ghost use Rattle.evm_model.specs.State.{State};
 ghost use Rattle.evm_model.specs.declared.event.Event.{Event};
 ghost use Rattle.hunt_search.specs.Searches.{EndsBranch};
-ghost use Rattle.hunt_schedules.specs.Failures.{FailsAsWanted};
-ghost use Rattle.hunt_schedules.specs.Making.{IsAwake, IsOver, MayMake};
+ghost use Rattle.hunt_failures.specs.Failures.{FailsAsWanted};
+ghost use Rattle.hunt_failures.specs.Awake.{IsAwake, IsOver};
+ghost use Rattle.hunt_schedules.specs.Making.{MayMake};
 ghost use Rattle.hunt_schedules.specs.Runs.{HasFailed};
-ghost use Rattle.hunt_switches.specs.Branches.{KeepsBranches, events_of_turns, turn_events};
-ghost use Rattle.hunt_switches.specs.Walks.{AreForked, HasPassed, HasStepped};
+ghost use Rattle.hunt_schedules.specs.Branches.{KeepsBranches, events_of_turns, turn_events};
+ghost use Rattle.hunt_schedules.specs.Walks.{AreForked, HasPassed, HasStepped};
 
-use crate::hashing::store_of;
 use crate::switching::Switching;
 use crate::tracking::Tracker;
 use evm_lines::LineSet;
 use evm_room::NoMemory;
+use hunt_failures::{Failure, Wanted, awake_processors, is_over};
 use hunt_schedules::{
-    AnyDevice, Event, Failure, Machine, NoBytes, RunOutcome, Wanted, advance, awake_processors,
-    is_over,
+    AnyDevice, Branch, CpuTurn, Event, Machine, NoBytes, Queue, RunOutcome, advance,
 };
-use hunt_switches::{Branch, CpuTurn, Queue};
+use hunt_states::store_of;
 
 // The failure that an event has made, if it is accepted.
 fn attempt(
@@ -140,10 +140,8 @@ fn fork(
     if !has_more(branch, bounds) {
         return Ok(());
     }
-    match queue.fork_all(branch, steps, awake, machine.cpu_count(), wanted.lines) {
-        Ok(()) => Ok(()),
-        Err(fault) => Err(fault),
-    }
+    queue.fork_all(branch, steps, awake, machine.cpu_count(), wanted.lines)?;
+    Ok(())
 }
 
 // Makes the next step of a branch, if its processor can step; else, or if the step makes the machine fail, how the branch ends.

@@ -2,7 +2,7 @@
 use Rattle.std.proofs.Common.{◌≡◌, ℕ, ◌<◌, ◌%◌, List, Bool, true, false, not, ◌&&◌, Some, None, length, refl, ap, sym, ◌∙◌, arith}
 use Rattle.std.specs.Prelude.{slice_get}
 use Rattle.evm_exec.specs.declared.hart.Hart.{Hart}
-use Rattle.law_ranks.specs.Boosts.{reaches}
+use Rattle.evm_model.specs.Boosts.{reaches}
 use Rattle.evm_model.proofs.Lists.{change-elsewhere, length-change}
 use Rattle.evm_model.specs.InBandCalls.{add_task}
 use Rattle.evm_model.specs.Events.{bound}
@@ -28,7 +28,7 @@ use Rattle.law_rules.proofs.Bounded.{are-change}
 use Rattle.law_rules.proofs.Firsts.{IsOobOwn, own-live}
 use Rattle.law_rules.proofs.Locks.{locks-fewer, fewer-change, locks-wait}
 use Rattle.law_rules.proofs.Places.{changed-from}
-use Rattle.law_walk.proofs.Sets.{IsPipe-stall}
+use Rattle.law_rules.proofs.Sets.{IsPipe-stall}
 use Rattle.law_rules.proofs.Settling.{IsActing, IsHeld, GoodBut, away-alike, calm-alike}
 use Rattle.law_rules.proofs.Shapes.{IsShaped, shaped-pipe, shaped-leave, shaped-hart, shaped-with, shaped-task, shaped-restamp, shaped-moved, shaped-add}
 use Rattle.law_rules.proofs.Stirring.{Stirs}

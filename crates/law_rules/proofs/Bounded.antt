@@ -11,12 +11,12 @@ use Rattle.evm_model.specs.State.{Parts, on_pipe, on_watch}
 use Rattle.evm_model.specs.Watch.{rest_watch}
 use Rattle.evm_model.specs.declared.stage.Stage.{Stage}
 use Rattle.evm_model.proofs.Lists.{slice_get-replicate}
-use Rattle.law_walk.proofs.Counted.{PipesUpTo-more, walk_counted}
-use Rattle.law_walk.proofs.Playing.{OOB_STAMPS, unnoted}
-use Rattle.law_walk.proofs.Rows.{IN_BAND_STAMPS, settles_oob, settles_in_band, nudges}
-use Rattle.law_walk.proofs.Sets.{IsPipe-raise, IsPipe-receive, IsPipe-idle, walk_pipes}
-use Rattle.law_walk.proofs.Tasks.{stalls_stage}
-use Rattle.law_walk.proofs.Walk.{Actor, ArePipes as AllPipes, Walk, start}
+use Rattle.law_rules.proofs.Counted.{PipesUpTo-more, walk_counted}
+use Rattle.law_rules.proofs.PlayingWalks.{OOB_STAMPS, unnoted}
+use Rattle.law_rules.proofs.RowWalks.{IN_BAND_STAMPS, settles_oob, settles_in_band, nudges}
+use Rattle.law_rules.proofs.Sets.{IsPipe-raise, IsPipe-receive, IsPipe-idle, walk_pipes}
+use Rattle.law_rules.proofs.Tasks.{stalls_stage}
+use Rattle.law_rules.proofs.Walk.{Actor, ArePipes as AllPipes, Walk, start}
 pub use Rattle.law_rules.specs.Within.{EachIsPipe, AreWithin}
 use Rattle.law_rules.proofs.Playing.{play_oob_lines-pipes}
 use Rattle.law_rules.proofs.Counting.{each-change, on_raise-up, on_receive-up}

@@ -12,9 +12,9 @@ use Rattle.evm_model.specs.State.{Parts, on_pipe}
 use Rattle.evm_model.specs.declared.stage.Stage.{Stage}
 use Rattle.evm_model.specs.declared.stage.Stage.TheVariants.{OutOfBand, InBand}
 use Rattle.evm_model.proofs.Lists.{change-cases}
-use Rattle.law_walk.proofs.Counted.{PipeUpTo-more, raise-up, receipt-up, oob-up, in_band-up, timer-up, counted-up, raise-counted, receive-counted, timer-counted, play-counted}
-pub use Rattle.law_walk.proofs.Counted.{PipesUpTo-more}
-use Rattle.law_walk.proofs.Playing.{oob_played_if, wakes-pipes}
+use Rattle.law_rules.proofs.Counted.{PipeUpTo-more, raise-up, receipt-up, oob-up, in_band-up, timer-up, counted-up, raise-counted, receive-counted, timer-counted, play-counted}
+pub use Rattle.law_rules.proofs.Counted.{PipesUpTo-more}
+use Rattle.law_rules.proofs.PlayingWalks.{oob_played_if, wakes-pipes}
 use Rattle.law_rules.proofs.Playing.{hand_on, play_oob-pipes}
 
 -- ---- what holds of each element, after changes

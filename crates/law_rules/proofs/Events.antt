@@ -2,7 +2,7 @@
 use Rattle.std.proofs.Common.{◌≡◌, ℕ, zero, suc, ◌<◌, List, Bool, true, false, not, Option, Some, None, length, refl, ap, sym, ◌∙◌, arith}
 use Rattle.std.specs.Prelude.{slice_get, nat_le, ◌==◌, if◌then◌else◌}
 use Rattle.std.proofs.lemmas.Bool.Decides.{nat_tests}
-use Rattle.law_ranks.specs.Boosts.{is_number}
+use Rattle.evm_model.specs.Boosts.{is_number}
 use Rattle.evm_model.proofs.Lists.{change-here, slice_get-below}
 use Rattle.evm_model.specs.Events.{add_event, new_event, bound, bound_of, has_other, holds_alone, holding_refusal, begin_event_wait, event_wait_unless, event_wait_with, event_wait_known, event_wait, signal_to, signal_first, signal_rounds, signal_known, signal, broadcast}
 use Rattle.evm_model.specs.Good.{IsOwn, is_mutex}

@@ -38,14 +38,14 @@ use Rattle.evm_model.specs.declared.stage.Stage.TheVariants.{OutOfBand, InBand}
 use Rattle.evm_model.specs.declared.task.Task.{Task}
 use Rattle.evm_model.specs.declared.refusal.Refusal.TheVariants.{BadAddress}
 use Rattle.evm_model.specs.Refusals.{board_refusal}
-use Rattle.law_walk.proofs.Refused.{passes}
+use Rattle.law_rules.proofs.Refused.{passes}
 use Rattle.law_rules.proofs.Aligned.{IsAligned, next-aligned, does-aligned}
 use Rattle.law_rules.proofs.Bounded.{EachIsPipe, are-change}
 use Rattle.law_rules.proofs.Counting.{each-map, mapped}
 use Rattle.law_rules.proofs.Firsts.{eqb-is}
 use Rattle.law_rules.proofs.Nudging.{good_of, settle_and_nudge-good}
 use Rattle.law_rules.proofs.Private.{good-bits, good-skip}
-use Rattle.law_walk.proofs.Sets.{IsPipe-raise, IsPipe-receive}
+use Rattle.law_rules.proofs.Sets.{IsPipe-raise, IsPipe-receive}
 use Rattle.law_rules.proofs.Settling.{GoodBut, good_but}
 use Rattle.law_rules.proofs.Shapes.{shaped, shaped-pipe, shaped-hart}
 use Rattle.law_rules.proofs.Calling.{fault-but, call-but}

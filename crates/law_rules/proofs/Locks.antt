@@ -3,9 +3,9 @@ use Rattle.std.proofs.Common.{◌≡◌, ℕ, zero, suc, ◌+◌, ◌<◌, ◌�
 use Rattle.std.specs.Prelude.{slice_get, option_map, ◌==◌, if◌then◌else◌}
 use Rattle.std.proofs.lemmas.Bool.{cases_eq}
 use Rattle.std.proofs.lemmas.Bool.Decides.{eqb_tells}
-use Rattle.law_ranks.specs.Boosts.{HasHeight, Falls, reaches, with_link}
-use Rattle.law_ranks.proofs.Heights.{falls-low}
-use Rattle.law_ranks.proofs.Links.{link-keeps, fewer-keeps}
+use Rattle.evm_model.specs.Boosts.{HasHeight, Falls, reaches, with_link}
+use Rattle.evm_model.proofs.Heights.{falls-low}
+use Rattle.evm_model.proofs.Links.{link-keeps, fewer-keeps}
 use Rattle.evm_model.proofs.Lists.{change-here, change-elsewhere, length-change, slice_get-push, slice_get-before}
 use Rattle.evm_model.specs.Good.{AreLocks}
 use Rattle.evm_model.specs.Lists.{change}

@@ -8,8 +8,8 @@ use Rattle.evm_model.specs.State.{Parts, Notices}
 use Rattle.evm_model.specs.declared.call.Outcome.{Outcome}
 use Rattle.evm_model.specs.declared.errno.Errno.{Errno}
 use Rattle.evm_model.specs.declared.notice.NoticeKind.{NoticeKind}
-use Rattle.law_walk.proofs.Notices.{NotesOne, none, one, alarm}
-use Rattle.law_walk.proofs.Walk.{Actor}
+use Rattle.law_rules.proofs.NoticeWalks.{NotesOne, none, one, alarm}
+use Rattle.law_rules.proofs.Walk.{Actor}
 use Rattle.law_rules.proofs.Done.{IsDone}
 use Rattle.law_rules.proofs.Settling.{GoodBut}
 use Rattle.law_rules.proofs.Shapes.{shaped-notices}

@@ -3,7 +3,7 @@ use Rattle.std.proofs.Common.{◌≡◌, ℕ, zero, suc, ◌<◌, List, Bool, tr
 use Rattle.std.specs.Prelude.{slice_get, if◌then◌else◌}
 use Rattle.std.proofs.Math.Nat.{eq-or-lt_of_le}
 use Rattle.std.proofs.lemmas.Bool.{cases_eq}
-use Rattle.law_ranks.specs.Boosts.{is_number}
+use Rattle.evm_model.specs.Boosts.{is_number}
 use Rattle.evm_model.proofs.Lists.{change-here, change-elsewhere, length-change, slice_get-below}
 use Rattle.evm_model.specs.Good.{IsOwn, AreLocks, AreEvents, event_of, event_at, is_ready}
 use Rattle.evm_model.specs.Lists.{change}

@@ -13,10 +13,10 @@ use Rattle.evm_model.specs.Settle.{spend, play_tick, play_oob, play_in_band, pla
 use Rattle.evm_model.specs.State.{Parts, on_pipe}
 use Rattle.evm_model.specs.Timers.{expire_timers}
 use Rattle.evm_model.specs.declared.stage.Stage.TheVariants.{OutOfBand, InBand}
-use Rattle.law_walk.proofs.Playing.{wakes-pipes, watch-pipes}
+use Rattle.law_rules.proofs.PlayingWalks.{wakes-pipes, watch-pipes}
 use Rattle.law_rules.proofs.Places.{change_twice}
 use Rattle.law_rules.proofs.Spending.{of-spends, end_waits-gives, expire_timers-gives, act-gives}
-use Rattle.law_walk.proofs.Sets.{IsPipe-arrive, IsPipe-play}
+use Rattle.law_rules.proofs.Sets.{IsPipe-arrive, IsPipe-play}
 
 -- ---- on one pipe
 abbrev pub hand_on : ℕ → Pipe → Pipe

@@ -2,7 +2,7 @@
 use Rattle.std.proofs.Common.{◌≡◌, ℕ, zero, suc, List, Option, Some, None, length, refl, ap, ◌∙◌, inl, inr}
 use Rattle.std.specs.Prelude.{slice_get, option_map, if◌then◌else◌}
 use Rattle.std.proofs.lemmas.Bool.{cases_eq}
-use Rattle.law_ranks.specs.Boosts.{greater, is_number, greatest, rank_after}
+use Rattle.evm_model.specs.Boosts.{greater, is_number, greatest, rank_after}
 use Rattle.evm_model.proofs.Lists.{change-here, change-elsewhere, length-change}
 use Rattle.evm_model.specs.Lists.{change}
 use Rattle.evm_model.specs.Mutexes.{lock_of_task, lock_at, heir_for, boosts, ceiling_owner, ceiling}

@@ -36,14 +36,14 @@ use Rattle.evm_model.specs.declared.event.Event.TheVariants.{Step, Tick, Raise, 
 use Rattle.evm_model.specs.declared.limits.TheConstants.{DEVICE_LIMIT, PROCESSOR_LIMIT, CAPACITY_LIMIT, EVENT_LIMIT, TIMER_LIMIT}
 use Rattle.evm_model.specs.declared.processor.Processor.{Processor}
 use Rattle.evm_model.proofs.Lists.{slice_get-below, slice_get-replicate, slice_get-slice_set, slice_get-within}
-use Rattle.law_walk.proofs.Counted.{walk_counted}
-use Rattle.law_walk.proofs.Amounts.{walk_amounts, walk_flags, walk_timers, walk_few_events, walk_actions}
-use Rattle.law_walk.proofs.Held.{held_more, walk_holds}
-use Rattle.law_walk.proofs.Notices.{walk_notes}
-use Rattle.law_walk.proofs.Rows.{MOVES, acting, row_walks}
-use Rattle.law_walk.specs.Raising.{may_raise}
-use Rattle.law_walk.proofs.Sizes.{walk_sizes, walk_most, walk_profile, walk_ticks}
-use Rattle.law_walk.proofs.Walk.{Actor, AreFew, IsCalm, Walk}
+use Rattle.law_rules.proofs.Counted.{walk_counted}
+use Rattle.law_rules.proofs.Amounts.{walk_amounts, walk_flags, walk_timers, walk_few_events, walk_actions}
+use Rattle.law_rules.proofs.Held.{held_more, walk_holds}
+use Rattle.law_rules.proofs.NoticeWalks.{walk_notes}
+use Rattle.law_rules.proofs.RowWalks.{MOVES, acting, row_walks}
+use Rattle.law_rules.specs.Raising.{may_raise}
+use Rattle.law_rules.proofs.Sizes.{walk_sizes, walk_most, walk_profile, walk_ticks}
+use Rattle.law_rules.proofs.Walk.{Actor, AreFew, IsCalm, Walk}
 use Rattle.law_rules.proofs.Bounded.{AreWithin, within-idle}
 use Rattle.law_rules.proofs.Counting.{PipesUpTo-more}
 use Rattle.law_rules.proofs.Firsts.{best-is_oob, own-in_band}
@@ -52,7 +52,7 @@ use Rattle.law_rules.proofs.Notices.{notices-more}
 use Rattle.law_rules.proofs.Ram.{row-ram}
 use Rattle.law_rules.proofs.Replays.{accepted}
 use Rattle.law_rules.proofs.Shapes.{positive}
-use Rattle.law_walk.proofs.Sets.{IsPipe-idle}
+use Rattle.law_rules.proofs.Sets.{IsPipe-idle}
 
 -- ---- the clock
 one_if : Bool → ℕ

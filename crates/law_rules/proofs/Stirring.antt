@@ -18,7 +18,7 @@ use Rattle.evm_model.specs.declared.task.TaskState.TheVariants.{Waits}
 use Rattle.evm_model.specs.declared.task.Wait.{Wait}
 use Rattle.evm_model.specs.declared.task.Wait.TheVariants.{Reacquire, Event}
 use Rattle.evm_model.specs.declared.timer.Timer.{Timer}
-use Rattle.law_walk.proofs.Waiters.{first-waits}
+use Rattle.law_rules.proofs.Waiters.{first-waits}
 use Rattle.law_rules.proofs.Firsts.{eqb-is}
 use Rattle.law_rules.proofs.Locks.{locks-owned, locks-freed, locks-retake}
 use Rattle.law_rules.proofs.Shapes.{IsShaped, shaped-hart, shaped-with, shaped-task, shaped-restamp, shaped-mutexes, shaped-events, shaped-others}

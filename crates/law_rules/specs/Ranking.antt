@@ -1,6 +1,6 @@
 -- Laws: ranks by boosts settle, and chains of waiting end, where some height falls along each link.
 use Rattle.std.specs.Prelude.{◌≡◌, ◌≢◌, ℕ, suc, ◌<◌, ◌≤◌, Option, Some}
-use Rattle.law_ranks.specs.Boosts.{rank_after, IsSettledRank, walk, EndsWithin, HasHeight}
+use Rattle.evm_model.specs.Boosts.{rank_after, IsSettledRank, walk, EndsWithin, HasHeight}
 
 -- as many rounds as there are heights end in ranks that another round leaves
 abbrev pub RoundsSettle : Type 0

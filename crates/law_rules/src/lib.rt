@@ -1,4 +1,5 @@
-//! The rules that hold after every event: what each event keeps, where settling changes nothing, how much a count grows.
+//! The rules that hold after every event. Every event is a walk of a few moves of pipes and of tasks: what each keeps, where settling changes
+//! nothing, how much a count grows.
 #![tactic(auto)]
 
 ghost use Rattle.law_rules.specs.Devices.{RegistersAreFound};

@@ -22,8 +22,8 @@ use Rattle.evm_model.specs.declared.task.TaskState.{TaskState}
 use Rattle.evm_model.specs.declared.task.TaskState.TheVariants.{InReady, Waits}
 use Rattle.evm_model.specs.declared.task.Wait.TheVariants.{Event as OfEvent}
 use Rattle.evm_model.proofs.Lists.{slice_get-set_other, change-elsewhere, change-cases, length-change, slice_get-push, slice_get-below, slice_get-each}
-use Rattle.law_walk.proofs.Sizes.{of_spend}
-use Rattle.law_walk.proofs.Walk.{Actor, IsOldTask, Does, hart, task, stamps, turns, awaits_event, spends, migrates, overruns, watches, wakes, regains, requeues, gives, holds, marks, picks, moves, tells, clock, schedules, adds, makes, types, Walk, start, next}
+use Rattle.law_rules.proofs.Sizes.{of_spend}
+use Rattle.law_rules.proofs.Walk.{Actor, IsOldTask, Does, hart, task, stamps, turns, awaits_event, spends, migrates, overruns, watches, wakes, regains, requeues, gives, holds, marks, picks, moves, tells, clock, schedules, adds, makes, types, Walk, start, next}
 use Rattle.law_runs.specs.Changes.{Added, Made, Typed}
 use Rattle.law_runs.specs.Kept.{AreRegisters, AllHaveRegisters}
 use Rattle.evm_model.specs.Good.{event_of, event_of_task}

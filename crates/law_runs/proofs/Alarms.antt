@@ -12,10 +12,10 @@ use Rattle.evm_model.specs.Commands.{tick}
 use Rattle.evm_model.specs.OobCalls.{move_task}
 use Rattle.evm_model.specs.Tasks.{restamp, set_state, set_policy, set_slice}
 use Rattle.evm_model.specs.Waits.{wake, begin_wait}
-use Rattle.law_walk.proofs.Notices.{IsAlarm}
-use Rattle.law_walk.proofs.Rows.{SETTLING_STAMPS}
-use Rattle.law_walk.proofs.Sizes.{of_spend, walk_profile, walk_ticks}
-use Rattle.law_walk.proofs.Walk.{Actor, Does, spends, notes, alarms, Walk, start, next}
+use Rattle.law_rules.proofs.NoticeWalks.{IsAlarm}
+use Rattle.law_rules.proofs.RowWalks.{SETTLING_STAMPS}
+use Rattle.law_rules.proofs.Sizes.{of_spend, walk_profile, walk_ticks}
+use Rattle.law_rules.proofs.Walk.{Actor, Does, spends, notes, alarms, Walk, start, next}
 use Rattle.law_runs.specs.Balance.{line_of_step}
 use Rattle.law_runs.specs.Noticing.{GetsNotice, GetsAlarm, NoticesChange, same_notices, by_task, by_watchdog}
 use Rattle.law_runs.proofs.Executing.{SETTLING_MOVES, StepParts, doer, settler, step_parts, walk_current, line_current, line_ticks}

@@ -12,9 +12,9 @@ use Rattle.evm_model.specs.declared.counts.Counts.{Counts}
 use Rattle.evm_model.specs.declared.stage.Stage.{Stage}
 use Rattle.evm_model.specs.declared.stage.Stage.TheVariants.{OutOfBand, InBand}
 use Rattle.evm_model.proofs.Lists.{change-cases, slice_get-below}
-use Rattle.law_walk.proofs.Counted.{Counted, raise-counted, receive-counted, timer-counted, play-counted}
-use Rattle.law_walk.proofs.Sets.{IsPipe-raise, move_kept}
-use Rattle.law_walk.proofs.Walk.{PipeMove, raises, receives, plays_timer, plays_oob, plays_in_band, stalls}
+use Rattle.law_rules.proofs.Counted.{Counted, raise-counted, receive-counted, timer-counted, play-counted}
+use Rattle.law_rules.proofs.Sets.{IsPipe-raise, move_kept}
+use Rattle.law_rules.proofs.Walk.{PipeMove, raises, receives, plays_timer, plays_oob, plays_in_band, stalls}
 use Rattle.law_runs.specs.Balance.{one_if, Balances}
 
 -- ---- numbers

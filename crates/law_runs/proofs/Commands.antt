@@ -29,7 +29,7 @@ use Rattle.evm_model.specs.declared.event.Event.TheVariants.{Step, Tick, Raise, 
 use Rattle.evm_model.specs.declared.limits.TheConstants.{DEVICE_LIMIT, DEVICE_LINE, POKE_LIMIT}
 use Rattle.evm_model.specs.declared.processor.Processor.{Processor}
 use Rattle.evm_model.proofs.Lists.{change-here, change-elsewhere, length-change}
-use Rattle.law_walk.proofs.Refused.{passes}
+use Rattle.law_rules.proofs.Refused.{passes}
 use Rattle.law_runs.specs.Changes.{RaisesOneLine, ProcessorChanges, CurrentChanges, RamChanges, ClockTicks, StepsOnce, ChangesOnly, AnswersDone, EventChanges, EventsChangeOnly}
 use Rattle.law_runs.specs.Kept.{kinds}
 use Rattle.law_runs.specs.Touching.{tick_pipe}

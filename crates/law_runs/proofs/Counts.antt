@@ -9,9 +9,9 @@ use Rattle.evm_model.specs.Settle.{nudge}
 use Rattle.evm_model.specs.State.{Board, Memory, Parts, on_parts}
 use Rattle.evm_model.specs.declared.limits.TheConstants.{TASK_LIMIT}
 use Rattle.evm_model.proofs.Lists.{change-here, change-elsewhere, length-change}
-use Rattle.law_walk.proofs.Rows.{SETTLING_STAMPS}
-use Rattle.law_walk.proofs.Sizes.{walk_sizes, walk_ticks}
-use Rattle.law_walk.proofs.Walk.{Actor, Walk, start}
+use Rattle.law_rules.proofs.RowWalks.{SETTLING_STAMPS}
+use Rattle.law_rules.proofs.Sizes.{walk_sizes, walk_ticks}
+use Rattle.law_rules.proofs.Walk.{Actor, Walk, start}
 use Rattle.law_runs.specs.Balance.{line_of_step}
 use Rattle.law_runs.specs.Changes.{Added}
 use Rattle.law_runs.specs.Kept.{kinds, AllHaveRegisters}

@@ -26,7 +26,7 @@ use Rattle.evm_model.specs.declared.task.TaskState.{TaskState}
 use Rattle.evm_model.specs.declared.task.TaskState.TheVariants.{Waits}
 use Rattle.evm_model.specs.declared.task.Wait.{Wait}
 use Rattle.evm_model.specs.declared.task.Wait.TheVariants.{Sleep, Event}
-use Rattle.law_walk.proofs.Waiters.{first-member}
+use Rattle.law_rules.proofs.Waiters.{first-member}
 use Rattle.law_runs.specs.Due.{IsLate, IsSooner, EndsByDeadline, WaitsEndByDeadline}
 use Rattle.law_runs.proofs.Sooner.{Leads, leads, how_many, few, no_many, none_left, one_less}
 

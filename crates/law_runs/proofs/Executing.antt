@@ -35,12 +35,12 @@ use Rattle.evm_model.specs.declared.stage.Stage.{Stage}
 use Rattle.evm_model.specs.declared.stage.Stage.TheVariants.{OutOfBand}
 use Rattle.evm_model.proofs.Lists.{change-here, change-elsewhere}
 use Rattle.std.proofs.lemmas.Bool.{cases_eq}
-use Rattle.law_walk.proofs.Calls.{walks_closely}
-use Rattle.law_walk.proofs.Playing.{first_on, unnoted}
-use Rattle.law_walk.proofs.Rows.{SETTLING_STAMPS, faults, settles, stops}
-use Rattle.law_walk.proofs.Sizes.{of_spend}
-use Rattle.law_walk.proofs.Walk.{Actor, Untouched, hart, spends, marks, picks, moves, receives, Does, Walk, start, next, quietly, counted, slack}
-use Rattle.law_walk.specs.Raising.{access_of, inst_access, word_access, hart_access, line_of}
+use Rattle.law_rules.proofs.Calls.{walks_closely}
+use Rattle.law_rules.proofs.PlayingWalks.{first_on, unnoted}
+use Rattle.law_rules.proofs.RowWalks.{SETTLING_STAMPS, faults, settles, stops}
+use Rattle.law_rules.proofs.Sizes.{of_spend}
+use Rattle.law_rules.proofs.Walk.{Actor, Untouched, hart, spends, marks, picks, moves, receives, Does, Walk, start, next, quietly, counted, slack}
+use Rattle.law_rules.specs.Raising.{access_of, inst_access, word_access, hart_access, line_of}
 use Rattle.law_runs.specs.Balance.{line_of_step}
 use Rattle.law_runs.specs.Noticing.{GetsNotice}
 use Rattle.law_runs.proofs.Noticing.{executed_notices, line_notices}

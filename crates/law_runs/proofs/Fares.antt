@@ -5,8 +5,8 @@ use Rattle.std.proofs.Math.Nat.{add-mul, lt-div-mul-add, one-mul}
 use Rattle.std.proofs.lemmas.Bool.{cases_eq}
 use Rattle.std.proofs.lemmas.Bool.Decides.{nat_tests}
 use Rattle.evm_exec.specs.declared.hart.Hart.{Hart}
-use Rattle.law_ranks.specs.Boosts.{is_number}
-use Rattle.law_ranks.proofs.Greatest.{boosts-so}
+use Rattle.evm_model.specs.Boosts.{is_number}
+use Rattle.evm_model.proofs.Greatest.{boosts-so}
 use Rattle.evm_model.specs.Good.{is_ready}
 use Rattle.evm_model.specs.Lists.{change}
 use Rattle.evm_model.specs.Mutexes.{owner, owner_of, owns_below, owns_any, held_by}
@@ -26,9 +26,9 @@ use Rattle.evm_model.specs.declared.task.Wait.TheVariants.{Reacquire}
 use Rattle.evm_model.specs.declared.stage.Stage.{Stage}
 use Rattle.evm_model.specs.declared.stage.Stage.TheVariants.{OutOfBand, InBand}
 use Rattle.evm_model.proofs.Lists.{change-here, change-elsewhere, slice_get-below}
-use Rattle.law_walk.proofs.Sizes.{of_spend}
-use Rattle.law_walk.proofs.Waiters.{IsWaiter, first_is}
-use Rattle.law_walk.proofs.Walk.{Actor, IsHeld}
+use Rattle.law_rules.proofs.Sizes.{of_spend}
+use Rattle.law_rules.proofs.Waiters.{IsWaiter, first_is}
+use Rattle.law_rules.proofs.Walk.{Actor, IsHeld}
 use Rattle.evm_model.specs.Actions.{action_in}
 use Rattle.evm_model.specs.Events.{bound, bound_of}
 use Rattle.evm_model.specs.Timers.{taken, is_due_timer, expired}

@@ -24,12 +24,12 @@ use Rattle.evm_model.specs.Event.{Event}
 use Rattle.evm_model.specs.declared.event.Event.TheVariants.{Step, Tick, Raise, Bell, Stop, Go, StepI, SetReg, SetPc, Poke, Break, Unbreak}
 use Rattle.evm_model.specs.declared.limits.TheConstants.{CAPACITY_LIMIT, DEVICE_LIMIT}
 use Rattle.evm_model.proofs.Lists.{slice_get-replicate}
-use Rattle.law_walk.proofs.Counted.{walk_counted, PipesUpTo-more}
-use Rattle.law_walk.proofs.Held.{held_more, walk_holds}
-use Rattle.law_walk.proofs.Rows.{MOVES, acting, row_walks}
-use Rattle.law_walk.proofs.Runs.{IsKept, replay_keeps}
-use Rattle.law_walk.proofs.Sets.{walk_pipes}
-use Rattle.law_walk.proofs.Walk.{Actor, ArePipes}
+use Rattle.law_rules.proofs.Counted.{walk_counted, PipesUpTo-more}
+use Rattle.law_rules.proofs.Held.{held_more, walk_holds}
+use Rattle.law_rules.proofs.RowWalks.{MOVES, acting, row_walks}
+use Rattle.law_rules.proofs.Runs.{IsKept, replay_keeps}
+use Rattle.law_rules.proofs.Sets.{walk_pipes}
+use Rattle.law_rules.proofs.Walk.{Actor, ArePipes}
 use Rattle.law_rules.proofs.States.{boot-tests}
 use Rattle.law_runs.specs.Fit.{CountsFit, IsUncounted, CountsAlwaysFit, CountsAlwaysFitLoaded, CountsAlwaysFitFresh, HoldsFit, HoldsAlwaysFit, HoldsAlwaysFitLoaded, HoldsAlwaysFitFresh}
 use Rattle.law_runs.proofs.Commands.{row-counts}

@@ -26,8 +26,8 @@ use Rattle.evm_model.specs.declared.task.TaskState.TheVariants.{InReady, OobRead
 use Rattle.evm_model.specs.declared.task.Wait.{Wait}
 use Rattle.evm_model.specs.declared.task.Wait.TheVariants.{Reacquire, Event as OfEvent}
 use Rattle.evm_model.proofs.Lists.{change-here, change-elsewhere, change-cases, slice_get-push, slice_get-before}
-use Rattle.law_walk.proofs.Sizes.{walk_least, walk_profile, walk_ticks}
-use Rattle.law_walk.proofs.Walk.{Actor, Asks, Cause, passed_back, timed_out, Ends, IsLate, IsHeld, Makes, Does, hart, task, stamps, turns, awaits_event, spends, migrates, overruns, wakes, requeues, regains, gives, holds, names, sets_action, sets_timer, takes_expiries, expires, schedules, adds, makes, adds_event, adds_timer, Walk, start, next}
+use Rattle.law_rules.proofs.Sizes.{walk_least, walk_profile, walk_ticks}
+use Rattle.law_rules.proofs.Walk.{Actor, Asks, Cause, passed_back, timed_out, Ends, IsLate, IsHeld, Makes, Does, hart, task, stamps, turns, awaits_event, spends, migrates, overruns, wakes, requeues, regains, gives, holds, names, sets_action, sets_timer, takes_expiries, expires, schedules, adds, makes, adds_event, adds_timer, Walk, start, next}
 use Rattle.law_rules.proofs.Firsts.{eqb-is}
 use Rattle.law_runs.specs.Changes.{Overruns, Rests, MutexesStay}
 use Rattle.law_runs.proofs.Added.{walk_made}

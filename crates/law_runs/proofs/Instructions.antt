@@ -24,8 +24,8 @@ use Rattle.evm_model.specs.declared.event.Answer.TheVariants.{Stopped, Received,
 use Rattle.evm_model.specs.declared.limits.TheConstants.{DEVICE_LINE}
 use Rattle.evm_model.specs.declared.processor.Processor.{Processor}
 use Rattle.evm_model.proofs.Lists.{slice_get-below}
-use Rattle.law_walk.proofs.Rows.{is_call, inst_calls, word_calls}
-use Rattle.law_walk.specs.Raising.{access_of, inst_access, word_access, hart_access, line_of}
+use Rattle.law_rules.proofs.RowWalks.{is_call, inst_calls, word_calls}
+use Rattle.law_rules.specs.Raising.{access_of, inst_access, word_access, hart_access, line_of}
 use Rattle.law_runs.specs.Balance.{line_of_step}
 use Rattle.law_runs.specs.Kept.{kinds}
 use Rattle.law_runs.specs.Touching.{MemoryChanges, stands, written, touches as touches_device}

@@ -12,7 +12,7 @@ use Rattle.evm_model.specs.Rows.{row}
 use Rattle.evm_model.specs.State.{State, Board, booted, booted_parts, first_processor}
 use Rattle.evm_model.specs.declared.boot.Boot.{Boot}
 use Rattle.evm_model.specs.Event.{Event}
-use Rattle.law_walk.proofs.Runs.{IsKept, replay_keeps}
+use Rattle.law_rules.proofs.Runs.{IsKept, replay_keeps}
 use Rattle.law_runs.specs.Kept.{AllHaveRegisters, SameSizes, SizesStay, IsAsBooted, StaysAsBooted, StaysAsLoaded}
 use Rattle.law_runs.proofs.Commands.{row-counts}
 use Rattle.law_runs.proofs.Added.{change-registers}

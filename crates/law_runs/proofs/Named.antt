@@ -20,9 +20,9 @@ use Rattle.evm_model.specs.declared.task.TaskState.{TaskState}
 use Rattle.evm_model.specs.declared.task.TaskState.TheVariants.{Waits}
 use Rattle.evm_model.specs.declared.task.Wait.TheVariants.{Event}
 use Rattle.evm_model.proofs.Lists.{change-here, change-elsewhere, change-cases, slice_get-push}
-use Rattle.law_walk.proofs.Sizes.{of_spend}
-use Rattle.law_walk.proofs.Twice.{change-twice}
-use Rattle.law_walk.proofs.Walk.{Actor, Does, NamesNone, task, turns, awaits_event, stamps, spends, migrates, overruns, wakes, requeues, names, schedules, adds, adds_event, Walk, start, next}
+use Rattle.law_rules.proofs.Sizes.{of_spend}
+use Rattle.law_rules.proofs.Twice.{change-twice}
+use Rattle.law_rules.proofs.Walk.{Actor, Does, NamesNone, task, turns, awaits_event, stamps, spends, migrates, overruns, wakes, requeues, names, schedules, adds, adds_event, Walk, start, next}
 
 -- the mutex of an event for which a task waits is below a number
 pub record AreNamed (count : ℕ) (events : List (Option ℕ)) (tasks : List Task) : Type 0 where

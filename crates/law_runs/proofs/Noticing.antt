@@ -33,9 +33,9 @@ use Rattle.evm_model.specs.declared.notice.NoticeKind.TheVariants.{DemotedByFaul
 use Rattle.evm_model.specs.declared.task.Task.{Task}
 use Rattle.evm_model.specs.declared.task.TaskState.TheVariants.{InReady, Faulted}
 use Rattle.evm_model.proofs.Lists.{change-here}
-use Rattle.law_walk.proofs.Calls.{walks_closely}
-use Rattle.law_walk.proofs.Notices.{NotesOne, none, one, alarm, walk_notes}
-use Rattle.law_walk.proofs.Walk.{Actor, Makes, Noted, by_in_band, by_fault as faulting, by_deadlock, by_unlock as unlocking, unchanged, start}
+use Rattle.law_rules.proofs.Calls.{walks_closely}
+use Rattle.law_rules.proofs.NoticeWalks.{NotesOne, none, one, alarm, walk_notes}
+use Rattle.law_rules.proofs.Walk.{Actor, Makes, Noted, by_in_band, by_fault as faulting, by_deadlock, by_unlock as unlocking, unchanged, start}
 use Rattle.law_runs.specs.Noticing.{NoticeCause, by_call, by_fault, by_lock, by_try_lock, by_unlock, GetsNotice, effect_faults, inst_faults, word_faults}
 use Rattle.law_runs.specs.Places.{MakesCall}
 use Rattle.law_runs.proofs.Silent.{Quiet, ended, demoted, call_is, outcome_stays, silent, refused_is, locks, tries, unlocks}

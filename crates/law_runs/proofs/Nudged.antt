@@ -9,7 +9,7 @@ use Rattle.evm_lines.specs.Lines.{has_line}
 use Rattle.evm_lines.specs.declared.TheConstants.{LINES}
 use Rattle.evm_model.proofs.Lists.{change-here, change-elsewhere, slice_get-each, slice_get-below, slice_get-within, slice_get-replicate}
 use Rattle.evm_model.specs.Commands.{set_bits}
-use Rattle.law_ranks.specs.Boosts.{is_number}
+use Rattle.evm_model.specs.Boosts.{is_number}
 use Rattle.evm_model.specs.Devices.{Attached, raise_line}
 use Rattle.evm_model.specs.Event.{Event}
 use Rattle.evm_model.specs.declared.limits.TheConstants.{DEVICE_LINE}
@@ -29,7 +29,7 @@ use Rattle.evm_model.specs.declared.event.Event.TheVariants.{Step, StepI}
 use Rattle.evm_model.specs.declared.processor.Processor.{Processor}
 use Rattle.evm_model.specs.declared.refusal.Refusal.{Refusal}
 use Rattle.evm_model.specs.declared.refusal.Refusal.TheVariants.{Full}
-use Rattle.law_walk.proofs.Walk.{ArePipes}
+use Rattle.law_rules.proofs.Walk.{ArePipes}
 use Rattle.law_rules.proofs.Keeps.{bits-good, step-good}
 use Rattle.law_rules.proofs.Private.{wants-not}
 use Rattle.law_rules.proofs.Replays.{accepted}

@@ -14,8 +14,8 @@ use Rattle.evm_model.specs.Waits.{wake, begin_wait}
 use Rattle.evm_model.specs.declared.action.Action.TheVariants.{Puts, Posts}
 use Rattle.evm_model.specs.Lists.{change}
 use Rattle.evm_model.proofs.Lists.{change-elsewhere, length-change, slice_get-before}
-use Rattle.law_walk.proofs.Sizes.{of_spend, walk_ticks}
-use Rattle.law_walk.proofs.Walk.{Actor, Makes, CountedBy, by_call, by_line, WrittenBy, by_call as posts_call, by_line as posts_line, Does, spends, counts, writes, names, sets_timer, takes_expiries, expires, sets_action, sets_up, adds_event, adds_flags, adds_timer, Untouched, unchanged, Walk, start, next}
+use Rattle.law_rules.proofs.Sizes.{of_spend, walk_ticks}
+use Rattle.law_rules.proofs.Walk.{Actor, Makes, CountedBy, by_call, by_line, WrittenBy, by_call as posts_call, by_line as posts_line, Does, spends, counts, writes, names, sets_timer, takes_expiries, expires, sets_action, sets_up, adds_event, adds_flags, adds_timer, Untouched, unchanged, Walk, start, next}
 use Rattle.law_runs.specs.Changes.{NamedBy, ListChanges, ObjectsChange}
 
 -- ---- a list

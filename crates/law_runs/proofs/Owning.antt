@@ -2,7 +2,7 @@
 use Rattle.std.proofs.Common.{◌≡◌, ℕ, zero, suc, Bool, true, false, Option, Some, None, refl, ap, sym, ◌∙◌}
 use Rattle.std.specs.Prelude.{slice_get, option_map, if◌then◌else◌}
 use Rattle.evm_exec.specs.declared.hart.Hart.{Hart}
-use Rattle.law_ranks.specs.Boosts.{is_number}
+use Rattle.evm_model.specs.Boosts.{is_number}
 use Rattle.evm_model.specs.Good.{is_ready}
 use Rattle.evm_model.specs.Harts.{A0, set_register}
 use Rattle.evm_model.specs.Lists.{change}

@@ -7,7 +7,7 @@ use Rattle.std.proofs.lemmas.Option.{slice_get-map}
 use Rattle.evm_lines.specs.Lines.{has_line}
 use Rattle.evm_dev.specs.Rows.{ticked as tick_row}
 use Rattle.evm_exec.specs.declared.hart.Hart.{Hart}
-use Rattle.law_ranks.specs.Boosts.{is_number}
+use Rattle.evm_model.specs.Boosts.{is_number}
 use Rattle.evm_model.specs.Commands.{tick, set_bits, on_number, set_breakpoint, unset_breakpoint}
 use Rattle.evm_model.specs.Devices.{Attached, line_if, raise_line, raise_by_ticks, tick_devices}
 use Rattle.evm_model.specs.Harts.{set_register, set_pc}
@@ -26,12 +26,12 @@ use Rattle.evm_model.specs.declared.limits.TheConstants.{DEVICE_LINE}
 use Rattle.evm_model.specs.declared.stage.Stage.{Stage}
 use Rattle.evm_model.specs.declared.stage.Stage.TheVariants.{OutOfBand, InBand}
 use Rattle.evm_model.proofs.Lists.{change-cases}
-use Rattle.law_walk.proofs.Counted.{Counted, raise-counted, receive-counted, timer-counted, play-counted}
-use Rattle.law_walk.proofs.Lift.{Lifts, At, lift}
-use Rattle.law_walk.proofs.Rows.{SETTLING_STAMPS, nudges}
-use Rattle.law_walk.proofs.Sets.{IsPipe-raise, walk_pipes}
-use Rattle.law_walk.proofs.Walk.{Actor, PipeMove, raises, receives, plays_timer, plays_oob, plays_in_band, stalls, ArePipes, Walk, start}
-use Rattle.law_walk.specs.Raising.{raises_by_tick}
+use Rattle.law_rules.proofs.Counted.{Counted, raise-counted, receive-counted, timer-counted, play-counted}
+use Rattle.law_rules.proofs.Lift.{Lifts, At, lift}
+use Rattle.law_rules.proofs.RowWalks.{SETTLING_STAMPS, nudges}
+use Rattle.law_rules.proofs.Sets.{IsPipe-raise, walk_pipes}
+use Rattle.law_rules.proofs.Walk.{Actor, PipeMove, raises, receives, plays_timer, plays_oob, plays_in_band, stalls, ArePipes, Walk, start}
+use Rattle.law_rules.specs.Raising.{raises_by_tick}
 use Rattle.law_runs.specs.Balance.{is_raise, one_if, line_of_step, device_raises}
 use Rattle.law_runs.proofs.Executing.{SETTLING_MOVES, doer, settler, StepParts, step_parts}
 

@@ -6,7 +6,7 @@ use Rattle.evm_model.specs.Replay.{IsReplayOf, accept, apply, left_by, replay}
 use Rattle.evm_model.specs.Rows.{row}
 use Rattle.evm_model.specs.State.{State, booted, booted_parts}
 use Rattle.evm_model.specs.Event.{Event}
-use Rattle.law_walk.proofs.Runs.{IsKept, replay_keeps}
+use Rattle.law_rules.proofs.Runs.{IsKept, replay_keeps}
 use Rattle.law_runs.specs.Replays.{ReplaysJoin, StartsAsReplay, StaysReplay, LoadsSoManyBytes, LoadsEachByte, HartsLoaded, LoadsNoMore}
 
 pub replays_join : ReplaysJoin

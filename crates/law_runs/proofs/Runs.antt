@@ -8,7 +8,7 @@ use Rattle.std.proofs.lemmas.Option.{slice_get-map}
 use Rattle.evm_lines.specs.Laws.{IsLineSet-empty}
 use Rattle.evm_lines.specs.declared.TheConstants.{LINES}
 use Rattle.evm_dev.specs.Rows.{ticked}
-use Rattle.law_ranks.specs.Boosts.{is_number}
+use Rattle.evm_model.specs.Boosts.{is_number}
 use Rattle.evm_model.specs.Commands.{tick, set_bits, set_breakpoint, unset_breakpoint}
 use Rattle.evm_model.specs.Devices.{Attached, line_if, raise_line, raise_by_ticks, tick_devices}
 use Rattle.evm_model.specs.Harts.{set_register, set_pc}
@@ -28,14 +28,14 @@ use Rattle.evm_model.specs.declared.refusal.Refusal.TheVariants.{Full}
 use Rattle.evm_model.specs.Event.{Event}
 use Rattle.evm_model.specs.declared.event.Event.TheVariants.{Step, Tick, Raise, Bell, Stop, Go, StepI, SetReg, SetPc, Poke, Break, Unbreak}
 use Rattle.evm_model.proofs.Lists.{change-cases, slice_get-replicate, slice_get-below}
-use Rattle.law_walk.proofs.Lift.{Lifts, lift}
-use Rattle.law_walk.proofs.Walk.{Actor, ArePipes, Walk}
-use Rattle.law_walk.specs.Raising.{raises_by_tick}
+use Rattle.law_rules.proofs.Lift.{Lifts, lift}
+use Rattle.law_rules.proofs.Walk.{Actor, ArePipes, Walk}
+use Rattle.law_rules.specs.Raising.{raises_by_tick}
 use Rattle.law_runs.specs.Balance.{IsFresh, AlwaysBalances, AlwaysBalancesLoaded, AlwaysBalancesFresh, AlwaysRaises, AlwaysRaisesLoaded, AlwaysRaisesFresh, is_raise, one_if, is_device_line, line_of_step, device_raises, device_raised, device_count}
 use Rattle.law_runs.proofs.Balance.{PipeBalances, move-balances, raise_balances}
 use Rattle.law_runs.specs.Kept.{kinds}
 use Rattle.law_runs.proofs.Commands.{row-counts}
-use Rattle.law_walk.proofs.Rows.{SETTLING_STAMPS}
+use Rattle.law_rules.proofs.RowWalks.{SETTLING_STAMPS}
 use Rattle.law_runs.proofs.Executing.{SETTLING_MOVES, doer, settler, step_parts}
 use Rattle.law_runs.proofs.Instructions.{step_writes}
 use Rattle.law_runs.proofs.Raised.{RaisedIs, row-raised, teller, nudge_walk, number_pipes, and_none}

@@ -4,7 +4,7 @@ use Rattle.std.specs.Prelude.{slice_get, length, ◌==◌, ◌&&◌, not, if◌t
 use Rattle.std.proofs.lemmas.Bool.Decides.{nat_tests}
 use Rattle.evm_exec.specs.Registers.{register_of}
 use Rattle.evm_exec.specs.declared.hart.Hart.{Hart}
-use Rattle.law_ranks.specs.Boosts.{is_number}
+use Rattle.evm_model.specs.Boosts.{is_number}
 use Rattle.evm_model.specs.Calls.{answered, finish_call, return_weak, is_weak_oob, ask_oob, call_of, call_known, call_of_hart, call_on, call_stage, call}
 use Rattle.evm_model.specs.Errnos.{refusal_answer}
 use Rattle.evm_model.specs.Harts.{A7, answer}

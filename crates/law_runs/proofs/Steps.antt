@@ -18,10 +18,10 @@ use Rattle.evm_model.specs.declared.task.Task.{Task}
 use Rattle.evm_model.specs.declared.task.TaskState.{TaskState}
 use Rattle.evm_model.specs.declared.task.TaskState.TheVariants.{InReady, OobReady}
 use Rattle.evm_model.proofs.Lists.{slice_get-below, slice_get-each, slice_get-within}
-use Rattle.law_walk.proofs.Notices.{one_more, walk_notes}
-use Rattle.law_walk.proofs.Rows.{STEP_MOVES, STEP_STAMPS, word_calls, MaySteps, steps, stepped_walk}
-use Rattle.law_walk.proofs.Sizes.{walk_least}
-use Rattle.law_walk.proofs.Walk.{Actor, IsCalm, Makes, unchanged, Walk, start}
+use Rattle.law_rules.proofs.NoticeWalks.{one_more, walk_notes}
+use Rattle.law_rules.proofs.RowWalks.{STEP_MOVES, STEP_STAMPS, word_calls, MaySteps, steps, stepped_walk}
+use Rattle.law_rules.proofs.Sizes.{walk_least}
+use Rattle.law_rules.proofs.Walk.{Actor, IsCalm, Makes, unchanged, Walk, start}
 use Rattle.law_rules.proofs.States.{calm-of}
 use Rattle.law_runs.specs.Balance.{line_of_step}
 use Rattle.law_runs.specs.Changes.{MakesCall, MakesNone, Stays, Spends, Overruns, MutexesStay, MutexesTaken, ObjectsChange, Schedules, Hears, StepChanges}

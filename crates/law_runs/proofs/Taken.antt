@@ -17,8 +17,8 @@ use Rattle.evm_model.specs.declared.task.TaskState.TheVariants.{Waits}
 use Rattle.evm_model.specs.declared.task.Wait.{Wait}
 use Rattle.evm_model.specs.declared.task.Wait.TheVariants.{Event as OfEvent}
 use Rattle.evm_model.proofs.Lists.{change-here, change-elsewhere, length-change}
-use Rattle.law_walk.proofs.Sizes.{of_spend}
-use Rattle.law_walk.proofs.Walk.{Actor, Makes, Does, spends, regains, gives, holds, makes, Walk, start, next}
+use Rattle.law_rules.proofs.Sizes.{of_spend}
+use Rattle.law_rules.proofs.Walk.{Actor, Makes, Does, spends, regains, gives, holds, makes, Walk, start, next}
 use Rattle.law_runs.specs.Changes.{MutexesTaken, Rests}
 use Rattle.law_runs.proofs.Fares.{is_again, rested}
 use Rattle.law_runs.proofs.Frames.{Asked, Frame, MayFrame, walk_frame, was_there}

@@ -16,7 +16,7 @@ use Rattle.evm_model.specs.Devices.{Attached, Accessed, line_if, register_at, an
 use Rattle.evm_model.specs.Lists.{change, change_some}
 use Rattle.evm_model.specs.Memory.{access_device, read_ram, write_ram}
 use Rattle.evm_model.specs.State.{Memory}
-use Rattle.law_walk.specs.Raising.{access_of, line_of}
+use Rattle.law_rules.specs.Raising.{access_of, line_of}
 use Rattle.law_runs.specs.Touching.{Accesses, loads, stores}
 use Rattle.law_runs.specs.Kept.{kinds}
 

@@ -10,8 +10,8 @@ use Rattle.std.proofs.lemmas.List.Sums.{fold-append}
 use Rattle.std.proofs.lemmas.Option.{slice_get_within}
 use Rattle.std.proofs.Math.Nat.{eq-or-lt_of_le}
 use Rattle.evm_lines.specs.Laws.{line_set_increases}
-use Rattle.law_ranks.specs.Boosts.{is_number}
-use Rattle.law_ranks.proofs.Greatest.{boosts-is, boosts-so}
+use Rattle.evm_model.specs.Boosts.{is_number}
+use Rattle.evm_model.proofs.Greatest.{boosts-is, boosts-so}
 use Rattle.evm_model.specs.Good.{IsPipe}
 use Rattle.evm_model.specs.Mutexes.{owner, owner_of}
 use Rattle.evm_model.specs.Passing.{hand_over, hand_over_below, end_task}
@@ -25,10 +25,10 @@ use Rattle.evm_model.specs.declared.stage.Stage.TheVariants.{InBand}
 use Rattle.evm_model.specs.declared.task.Task.{Task}
 use Rattle.evm_model.specs.declared.task.Wait.TheVariants.{Line}
 use Rattle.evm_model.proofs.Lists.{change-elsewhere}
-use Rattle.law_walk.proofs.Passing.{untouched}
-use Rattle.law_walk.proofs.Sets.{IsPipe-receive}
+use Rattle.law_rules.proofs.PassingWalks.{untouched}
+use Rattle.law_rules.proofs.Sets.{IsPipe-receive}
 use Rattle.law_runs.specs.Order.{LinesRise, LogsPlayInOrder, Rise, MutexesPassByNumber, WaitersWakeByNumber, WaitsForLine}
-use Rattle.law_walk.proofs.Waiters.{wait_is}
+use Rattle.law_rules.proofs.Waiters.{wait_is}
 use Rattle.law_rules.proofs.Firsts.{eqb-is}
 use Rattle.law_runs.proofs.Fares.{both}
 

@@ -13,7 +13,7 @@ use Rattle.evm_model.specs.declared.task.TaskState.TheVariants.{Waits}
 use Rattle.evm_model.specs.declared.task.Wait.{Wait}
 use Rattle.evm_model.specs.declared.task.Wait.TheVariants.{Line, Lock, Reacquire, Semaphore, Event as OfEvent, Flags, Sleep, Timer as OfTimer}
 use Rattle.evm_model.proofs.Lists.{slice_get-within}
-use Rattle.law_walk.proofs.Walk.{Actor, Cause, played, passed, passed_back, regained, timed_out, put, put_by, posted, posted_by, expired_for, Ends, signalled, late, IsLate, is_event, late_answer, Makes}
+use Rattle.law_rules.proofs.Walk.{Actor, Cause, played, passed, passed_back, regained, timed_out, put, put_by, posted, posted_by, expired_for, Ends, signalled, late, IsLate, is_event, late_answer, Makes}
 use Rattle.law_runs.specs.Changes.{WasLate, late_answer as late_after, is_event_wait, EventEnds, by_signal, by_time, HasMutex, WokenBy, by_line, by_owner, by_owner_back, by_event, by_deadline, by_put, by_line_put, by_post, by_line_post, by_timer}
 use Rattle.law_runs.proofs.Fares.{owner_oob, returns}
 use Rattle.law_runs.proofs.Named.{AreNamed}

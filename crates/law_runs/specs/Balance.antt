@@ -1,8 +1,8 @@
 -- No interrupt is lost and none is played twice: what came in is what went out and what is still there.
 use Rattle.std.specs.Prelude.{◌≡◌, ℕ, ◌+◌, ◌-◌, ◌<◌, ◌≤◌, List, [], ◌∷◌, Option, Some, None, Bool, true, false, ◌==◌, ◌&&◌, if◌then◌else◌, nat_le, nat_lt, slice_get, length, count_by, Result, Ok, Err}
 use Rattle.evm_lines.specs.Lines.{has_line}
-use Rattle.law_ranks.specs.Boosts.{is_number}
-use Rattle.law_walk.specs.Raising.{hart_access, line_of, raises_by_tick}
+use Rattle.evm_model.specs.Boosts.{is_number}
+use Rattle.law_rules.specs.Raising.{hart_access, line_of, raises_by_tick}
 use Rattle.evm_model.specs.Commands.{set_bits}
 use Rattle.evm_model.specs.Devices.{Attached}
 use Rattle.evm_model.specs.Load.{start_loaded}

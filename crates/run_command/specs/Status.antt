@@ -1,6 +1,6 @@
 -- When a run has status 0.
 use Rattle.std.specs.Prelude.{◌≡◌, ℕ, List}
-use Rattle.evm_image.specs.Images.{Contents}
+use Rattle.evm_ram.specs.Images.{Contents}
 use Rattle.evm_model.specs.State.{State}
 use Rattle.evm_model.specs.declared.boot.Boot.{Boot}
 use Rattle.evm_streams.specs.declared.sink.Writing.{Writing}

@@ -8,13 +8,12 @@ ghost use Rattle.run_command.specs.Status.{Succeeds};
 use crate::telling::put_finished;
 use crate::words::{Course, Job, Until, WordFault, beats_of, course_of, job_of};
 use clap::ArgMatches;
-use command_lines::names_at;
 use evm_host::{
-    Ending, FAILED, Known, Message, Sink, System, USAGE, Verdict, World, ended, ended_with,
-    failed_write_message, image_at, memory_refused, not_created, not_opened, not_read, read_all,
-    report, write_all,
+    Ending, FAILED, Input, Message, Sink, System, USAGE, Verdict, World, ended, ended_with,
+    failed_write_message, image_at, memory_refused, names_at, not_created, not_opened, not_read,
+    read_all, report, write_all,
 };
-use evm_image::Image;
+use evm_ram::Image;
 use run_schedule::{
     Beat, BeginFault, Boot, CAPACITY_LIMIT, FinishedRun, LineStop, RunEnd, RunFault, RunPlan,
     SIZE_LIMIT, ScriptFault, run, run_scripted,
@@ -135,9 +134,9 @@ fn line_stopped<S: System>(
     match script_fault(script, number, stop_of(stop)) {
         None => memory_refused(PROGRAM, world),
         Some(fault) => {
-            let known = Known::Lines(Some(image), script);
+            let input = Input::Lines(Some(image), script);
             let ending = Ending::Complete(Verdict::Refused(fault));
-            ended_with(known, path, &ending, &mut world.errors)
+            ended_with(input, path, &ending, &mut world.errors)
         }
     }
 }

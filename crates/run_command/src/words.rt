@@ -83,10 +83,7 @@ fn until_of(words: &ArgMatches<'_>) -> Result<Until, WordFault> {
 
 /// How the words ask for a program to be run.
 pub(crate) fn course_of<'a>(words: &ArgMatches<'a>) -> Result<Course<'a>, WordFault> {
-    let until = match until_of(words) {
-        Ok(until) => until,
-        Err(fault) => return Err(fault),
-    };
+    let until = until_of(words)?;
     Ok(Course {
         cpus: words.get_one("cpus").unwrap_or(2),
         ram: words.get_one("ram"),
@@ -103,10 +100,7 @@ pub(crate) fn job_of<'a>(words: &ArgMatches<'a>) -> Result<Job<'a>, WordFault> {
     let Some(image) = words.get_str("IMAGE") else {
         return Err(WordFault::Missing);
     };
-    let course = match course_of(words) {
-        Ok(course) => course,
-        Err(fault) => return Err(fault),
-    };
+    let course = course_of(words)?;
     Ok(Job {
         image,
         course,

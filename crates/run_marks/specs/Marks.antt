@@ -14,10 +14,10 @@ use Rattle.evm_model.specs.declared.task.TaskState.TheVariants as states
 use Rattle.evm_model.specs.declared.task.Wait.{Wait}
 use Rattle.evm_model.specs.declared.task.Wait.TheVariants as waits
 use Rattle.run_marks.specs.Lists.{below}
-use Rattle.run_marks.specs.Looks.{IsLookAt}
-use Rattle.run_marks.specs.declared.look.Lane.{Lane}
-use Rattle.run_marks.specs.declared.look.Look.{Look}
-use Rattle.run_marks.specs.declared.look.Running.{Running}
+use Rattle.run_marks.specs.Observations.{IsObservationOf}
+use Rattle.run_marks.specs.declared.observation.Lane.{Lane}
+use Rattle.run_marks.specs.declared.observation.Observation.{Observation}
+use Rattle.run_marks.specs.declared.observation.Running.{Running}
 use Rattle.run_marks.specs.declared.mark.Mark.{Mark}
 use Rattle.run_marks.specs.declared.mark.Mark.TheVariants as mark
 
@@ -80,7 +80,7 @@ abbrev pub pipe_marks : ℕ → Option (List Counts) → Option (List Counts) �
 pipe_marks c (Some before) (Some after) = lines_marks c before after
 pipe_marks c _ _ = []
 
-unfoldable pub processor_marks : Look → Look → Parts → Parts → ℕ → List Mark
+unfoldable pub processor_marks : Observation → Observation → Parts → Parts → ℕ → List Mark
 processor_marks before after was now c =
     lane_marks c (slice_get before.lanes.items c) (slice_get after.lanes.items c) ++ pipe_marks c (line_counts_at c was) (line_counts_at c now)
 
@@ -168,7 +168,7 @@ abbrev pub rank_marks : ℕ → Option ℕ → Option ℕ → List Mark
 rank_marks t (Some before) (Some after) = when (not (before == after)) (mark.Rank t before after)
 rank_marks t _ _ = []
 
-unfoldable pub one_task_marks : Look → Look → ℕ → List Mark
+unfoldable pub one_task_marks : Observation → Observation → ℕ → List Mark
 one_task_marks before after t =
     task_marks t after.ticks (slice_get before.tasks.items t) (slice_get after.tasks.items t)
     ++ rank_marks t (slice_get before.ranks.items t) (slice_get after.ranks.items t)
@@ -183,7 +183,7 @@ abbrev pub owner_in : Option (Option ℕ) → Option ℕ
 owner_in None = None
 owner_in (Some owner) = owner
 
-unfoldable pub owner_marks : Look → Look → ℕ → List Mark
+unfoldable pub owner_marks : Observation → Observation → ℕ → List Mark
 owner_marks before after m =
     let from = owner_in (slice_get before.owners.items m) in
     let to = owner_in (slice_get after.owners.items m) in
@@ -198,7 +198,7 @@ notice_marks before after None = []
 notice_marks before after (Some last) = when (nat_lt before after) (mark.Notice last.kind last.task (after - before))
 
 -- all of them, where the machine had the parts `was` before and has `now` after
-unfoldable pub marks_of : Look → Look → Parts → Parts → List Mark
+unfoldable pub marks_of : Observation → Observation → Parts → Parts → List Mark
 marks_of before after was now =
     tick_marks before.ticks after.ticks
     ++ below (processor_marks before after was now) after.cpu_count
@@ -208,8 +208,8 @@ marks_of before after was now =
 
 -- the marks by which two machines differ: those of looks at both
 pub record AreMarks (was now : Parts) (marks : List Mark) : Type 0 where
-  pub before : Look
-  pub after : Look
-  pub seen_before : IsLookAt before was
-  pub seen_after : IsLookAt after now
+  pub before : Observation
+  pub after : Observation
+  pub seen_before : IsObservationOf before was
+  pub seen_after : IsObservationOf after now
   pub all : marks ≡ marks_of before after was now

@@ -1,17 +1,12 @@
 -- The counts of the lines as they were last looked at, and which of them an event leaves.
 use Rattle.std.specs.Prelude.{◌≡◌, ◌≢◌, ℕ, List, Some, if◌then◌else◌, length, nat_lt, slice_get}
 use Rattle.evm_model.specs.Pipes.{Pipe}
-use Rattle.evm_model.specs.State.{Parts, State}
-use Rattle.evm_model.specs.Replay.{apply}
-use Rattle.evm_model.specs.Event.{Event}
+use Rattle.evm_model.specs.State.{Parts}
 use Rattle.evm_model.specs.declared.counts.Counts.{Counts}
-use Rattle.evm_model.specs.declared.event.Answer.{Answer}
 use Rattle.evm_model.specs.declared.event.Event.{Event as EventOf}
 use Rattle.evm_model.specs.declared.event.Event.TheVariants.{Step, Raise, Bell}
-use Rattle.run_marks.specs.Items.{outline}
 use Rattle.run_marks.specs.declared.tally.Reach.{Reach}
 use Rattle.run_marks.specs.declared.tally.Reach.TheVariants.{One, Raises, All}
-use Rattle.std.specs.Prelude.{Ok}
 
 -- row c has the counts of the lines of processor c
 abbrev pub IsTallyOf : List (List Counts) → Parts → Type 0
@@ -49,10 +44,3 @@ LeavesCounts All was now = Unit {0}
 pub record IsWithinReach (reach : Reach) (was now : Parts) : Type 0 where
   pub pipes : length now.pipes ≡ length was.pipes
   pub leaves : LeavesCounts reach was now
-
--- an event of this outline was applied
-pub record IsApplied (told : EventOf ℕ) (before after : State) : Type 0 where
-  pub event : Event
-  pub answer : Answer
-  pub outlined : outline event ≡ told
-  pub applied : apply before event ≡ Ok (after, answer)

@@ -8,8 +8,8 @@ ghost use Rattle.run_marks.specs.Tallies.{IsTallyOf, IsTallyUpTo, IsWithinReach}
 ghost use Rattle.run_marks.specs.Marks.{lane_marks, marks_of, notice_marks, owner_in, owner_marks, processor_marks, running_marks, same_bit, same_owner, same_running, same_stage, stall_marks, stop_marks, tick_marks, when};
 
 use crate::line_marks::push_pipe;
-use crate::look::{Lane, Look, Running, put};
 use crate::mark::Mark;
+use crate::observation::{Lane, Observation, Running, put};
 use crate::tally::{Reach, Tally};
 use crate::task_marks::push_tasks;
 use evm_dev::Device;
@@ -142,8 +142,8 @@ fn push_lane(
 fn push_processor<D: Device>(
     marks: &mut Vec<Mark>,
     cpu: u8,
-    before: &Look,
-    after: &Look,
+    before: &Observation,
+    after: &Observation,
     tally: &mut Tally,
     machine: &Machine<D>,
     reach: Reach,
@@ -163,8 +163,8 @@ fn push_processor<D: Device>(
 
 fn push_processors<D: Device>(
     marks: &mut Vec<Mark>,
-    before: &Look,
-    after: &Look,
+    before: &Observation,
+    after: &Observation,
     tally: &mut Tally,
     machine: &Machine<D>,
     reach: Reach,
@@ -200,7 +200,12 @@ fn owner_in(owner: Option<&Option<u8>>) -> Option<u8>
 }
 
 #[tactic(auto, unfolding(crate::specs::Marks::owner_marks), using(crate::proofs::Lemmas::numbered))]
-fn push_owner(marks: &mut Vec<Mark>, mutex: u8, before: &Look, after: &Look) -> Result<(), Refused>
+fn push_owner(
+    marks: &mut Vec<Mark>,
+    mutex: u8,
+    before: &Observation,
+    after: &Observation,
+) -> Result<(), Refused>
     ensures { OnOk result (marks.new.items ≡ marks.old.items ++ owner_marks before.now after.now mutex) }
 {
     let at = usize::from(mutex);
@@ -214,7 +219,11 @@ fn push_owner(marks: &mut Vec<Mark>, mutex: u8, before: &Look, after: &Look) -> 
 }
 
 #[tactic(auto, using(crate::proofs::Lemmas::numbered))]
-fn push_owners(marks: &mut Vec<Mark>, before: &Look, after: &Look) -> Result<(), Refused>
+fn push_owners(
+    marks: &mut Vec<Mark>,
+    before: &Observation,
+    after: &Observation,
+) -> Result<(), Refused>
     ensures { OnOk result (marks.new.items ≡ marks.old.items ++ below (owner_marks before.now after.now) after.now.mutex_count) }
 {
     for mutex in 0..after.mutex_count {
@@ -256,10 +265,10 @@ fn push_ticks(marks: &mut Vec<Mark>, before: u64, after: u64) -> Result<(), Refu
 /// Appends the marks by which a machine differs, after an event that reaches so far, from what was seen before: those of each
 /// processor, of each task, of each mutex, and of the machine.
 #[tactic(auto, unfolding(crate::specs::Marks::marks_of), using(crate::proofs::Lemmas::numbered))]
-pub(crate) fn marks<D: Device>(
+pub fn marks<D: Device>(
     marks: &mut Vec<Mark>,
-    before: &Look,
-    after: &Look,
+    before: &Observation,
+    after: &Observation,
     tally: &mut Tally,
     machine: &Machine<D>,
     reach: Reach,

@@ -23,7 +23,7 @@ pub enum Reach {
 }
 
 /// How far an event reaches.
-pub(crate) fn reach_of(event: &Event<u8>) -> Reach
+pub fn reach_of(event: &Event<u8>) -> Reach
     ensures { result ≡ reach_of event.now }
 {
     match event {
@@ -44,7 +44,7 @@ pub(crate) fn reach_of(event: &Event<u8>) -> Reach
 /// The counts of the lines: row c has those of processor c.
 #[derive(Drop)]
 pub struct Tally {
-    pub(crate) rows: [[Counts; LINE_COUNT]; PROCESSOR_LIMIT],
+    pub rows: [[Counts; LINE_COUNT]; PROCESSOR_LIMIT],
 }
 
 const NO_PASSAGE: Passage = Passage {
@@ -63,7 +63,7 @@ const NO_COUNTS: Counts = Counts {
 
 impl Tally {
     /// Nothing is counted yet.
-    pub(crate) fn new() -> Tally {
+    pub fn new() -> Tally {
         Tally {
             rows: [[NO_COUNTS; LINE_COUNT]; PROCESSOR_LIMIT],
         }
@@ -100,7 +100,7 @@ impl Tally {
     }
 
     /// Looks at each processor.
-    pub(crate) fn see<D: Device>(&mut self, machine: &Machine<D>)
+    pub fn see<D: Device>(&mut self, machine: &Machine<D>)
         ensures { IsTallyOf self.new.rows machine.now.board.parts }
     {
         machine.rules();

@@ -4,14 +4,14 @@ ghost use Rattle.std.specs.Prelude.{◌≡◌, ◌++◌, OnOk, option_copied, sl
 ghost use Rattle.run_marks.specs.Lists.{below};
 ghost use Rattle.run_marks.specs.Marks.{change_marks, deadline_marks, end_marks, has_ended, is_wait, migrates_marks, moves_marks, one_task_marks, rank_marks, equal_waits, task_stage, task_marks, wait_of, wait_stage, waits_marks, woken_marks};
 
-use crate::look::Look;
 use crate::mark::Mark;
 use crate::marking::{push_when, same_stage};
+use crate::observation::Observation;
 use evm_model::{Stage, Task, TaskState, Wait};
 use evm_room::Refused;
 
-// Whether a wait is this one.
-pub(crate) fn equal_waits(one: Wait, two: Wait) -> bool
+/// Whether a wait is this one.
+pub fn equal_waits(one: Wait, two: Wait) -> bool
     ensures { result ≡ equal_waits one two }
 {
     match (one, two) {
@@ -254,8 +254,8 @@ fn rank_at(ranks: &[u16], at: usize) -> Option<u16>
 fn push_one_task(
     marks: &mut Vec<Mark>,
     task: u8,
-    before: &Look,
-    after: &Look,
+    before: &Observation,
+    after: &Observation,
 ) -> Result<(), Refused>
     ensures { OnOk result (marks.new.items ≡ marks.old.items ++ one_task_marks before.now after.now task) }
 {
@@ -277,7 +277,11 @@ fn push_one_task(
 }
 
 #[tactic(auto, using(crate::proofs::Lemmas::numbered))]
-pub(crate) fn push_tasks(marks: &mut Vec<Mark>, before: &Look, after: &Look) -> Result<(), Refused>
+pub(crate) fn push_tasks(
+    marks: &mut Vec<Mark>,
+    before: &Observation,
+    after: &Observation,
+) -> Result<(), Refused>
     ensures { OnOk result (marks.new.items ≡ marks.old.items ++ below (one_task_marks before.now after.now) after.now.task_count) }
 {
     for task in 0..after.task_count {

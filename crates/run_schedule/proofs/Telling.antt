@@ -3,7 +3,7 @@ use Rattle.std.proofs.Common.{inl, inr, ◌≡◌, ℕ, ◌≤◌, List, [], ◌
 use Rattle.std.proofs.lemmas.Bool.Decides.{nat_tests}
 use Rattle.std.specs.Prelude.{◌⊎◌}
 use Rattle.evm_core.specs.Load.{load, load_refusal, load_unless}
-use Rattle.evm_image.specs.Images.{Contents}
+use Rattle.evm_ram.specs.Images.{Contents}
 use Rattle.evm_model.specs.Event.{Event}
 use Rattle.evm_model.specs.Refusals.{is_full, refusal}
 use Rattle.evm_model.specs.Replay.{apply, start, IsReplayOf}
@@ -13,7 +13,7 @@ use Rattle.evm_model.specs.declared.event.Answer.{Answer}
 use Rattle.evm_model.specs.declared.event.Event.TheVariants.{Tick}
 use Rattle.evm_model.specs.declared.refusal.Refusal.{Refusal}
 use Rattle.evm_model.specs.declared.refusal.Refusal.TheVariants.{Full}
-use Rattle.evm_program.specs.Devices.{program_devices}
+use Rattle.evm_devs.specs.Devices.{program_devices}
 use Rattle.hunt_schedules.specs.Beginning.{Begins}
 use Rattle.evm_streams.proofs.Calls.{took_append, took_none}
 use Rattle.evm_streams.specs.declared.sink.Writing.{Writing}

@@ -15,7 +15,7 @@ use Rattle.evm_model.specs.declared.event.Answer.TheVariants.{Ran}
 use Rattle.evm_model.specs.declared.event.Event.TheVariants.{Step}
 use Rattle.evm_model.specs.declared.refusal.Refusal.{Refusal}
 use Rattle.evm_ram.specs.Ram.{bytes_at}
-use Rattle.hunt_schedules.specs.Failures.{is_ecall}
+use Rattle.hunt_failures.specs.Failures.{is_ecall}
 
 -- ---- the call putc
 -- task t, which has this hart, puts the low byte of a0 by an ECALL with the number of putc in a7, made in-band: out-of-band the call only

@@ -9,8 +9,8 @@ use Rattle.evm_model.specs.declared.processor.Processor.{Processor}
 use Rattle.evm_model.specs.declared.task.Task.{Task}
 use Rattle.evm_model.specs.declared.task.TaskState.{TaskState}
 use Rattle.evm_model.specs.declared.task.TaskState.TheVariants.{InReady, OobReady, Waits, Exit, Faulted as Ended}
-use Rattle.hunt_schedules.specs.Failures.{faulted_at, is_off, is_quiet_pipe, is_waiting_task, is_zero, stopped_at}
-use Rattle.hunt_schedules.specs.Making.{IsAwake}
+use Rattle.hunt_failures.specs.Failures.{faulted_at, is_off, is_quiet_pipe, is_waiting_task, is_zero, stopped_at}
+use Rattle.hunt_failures.specs.Awake.{IsAwake}
 use Rattle.run_schedule.specs.declared.ending.RunEnd.{RunEnd}
 use Rattle.run_schedule.specs.declared.ending.RunEnd.TheVariants.{AllEnded, Break, Fault, Deadlock, Idle, Over, Refused}
 

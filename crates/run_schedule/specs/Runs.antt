@@ -1,6 +1,6 @@
 -- What a run has done.
 use Rattle.std.specs.Prelude.{ℕ, List, ◌++◌}
-use Rattle.evm_image.specs.Images.{Contents}
+use Rattle.evm_ram.specs.Images.{Contents}
 use Rattle.evm_model.specs.Replay.{IsReplayOf}
 use Rattle.evm_model.specs.State.{State}
 use Rattle.evm_model.specs.declared.boot.Boot.{Boot}

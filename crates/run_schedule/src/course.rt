@@ -10,7 +10,7 @@ use crate::random::Random;
 use evm_core::Machine;
 use evm_devs::AnyDevice;
 use evm_model::{Event, NoBytes};
-use hunt_schedules::{Awake, awake_processors};
+use hunt_failures::{Awake, awake_processors};
 
 /// An event that comes again and again: behind each round whose number, counted from 1, is a multiple of `every`; never where that is 0.
 #[derive(Clone, Copy)]

@@ -3,14 +3,14 @@
 ghost use Rattle.std.specs.Prelude.{◌≡◌, ℕ, ◌<◌, true, false, IsTrue, Option, length, slice_get};
 ghost use Rattle.evm_core.specs.Views.{device_word};
 ghost use Rattle.evm_model.specs.Current.{is_oob};
-ghost use Rattle.hunt_schedules.specs.Failures.{ended_at, faulted_at, is_off, is_quiet_pipe, is_waiting_task, is_zero, stopped_at};
-ghost use Rattle.hunt_schedules.specs.Making.{IsAwake};
+ghost use Rattle.hunt_failures.specs.Failures.{ended_at, faulted_at, is_off, is_quiet_pipe, is_waiting_task, is_zero, stopped_at};
+ghost use Rattle.hunt_failures.specs.Awake.{IsAwake};
 ghost use Rattle.run_schedule.specs.Endings.{AllExited, IsDeadlocked, has_exited, is_resting, is_untimed};
 
 use evm_core::Machine;
 use evm_devs::AnyDevice;
 use evm_model::{Task, TaskState};
-use hunt_schedules::awake_processors;
+use hunt_failures::awake_processors;
 
 /// Whether a processor is stopped.
 pub(crate) fn is_stopped(machine: &Machine<AnyDevice>, c: u8) -> bool

@@ -4,7 +4,7 @@ ghost use Rattle.std.specs.Prelude.{◌≡◌, [], ◌∷◌, OnOk, Option};
 ghost use Rattle.evm_model.specs.Current.{current};
 ghost use Rattle.evm_model.specs.Event.{event_lent};
 ghost use Rattle.evm_ram.specs.Ram.{bytes_at};
-ghost use Rattle.hunt_schedules.specs.Failures.{is_ecall};
+ghost use Rattle.hunt_failures.specs.Failures.{is_ecall};
 ghost use Rattle.evm_streams.specs.Writes.{Took};
 ghost use Rattle.run_schedule.specs.Console.{byte_of, device_printed, hart_puts, if_ran, more_printed, nothing_printed, puts_ahead, task_puts};
 

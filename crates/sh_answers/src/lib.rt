@@ -23,7 +23,8 @@ pub use numbers::{address_of, missing_name, number_of};
 pub use page::Page;
 pub use plain::{missing_symbol, put_plain, report_stop, script_fault};
 pub use sh_session::{
-    AnyDevice, Bench, Line, Machine, Notes, ScriptStop, View, read_line, script_text, write_journal,
+    AnyDevice, Line, Machine, Notes, ScriptStop, ScriptedMachine, View, read_line, script_text,
+    write_journal,
 };
 pub use show::{Numbers, numbers_of, put_numbers};
 pub use snapshot::{Snapshot, push_one};

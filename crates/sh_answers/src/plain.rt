@@ -4,9 +4,9 @@ use crate::numbers::{address_of, missing_name};
 use crate::page::Page;
 use crate::registers::register_number;
 use crate::words::split_word;
-use evm_image::Image;
-use evm_messages::{Diagnostic, LineFault, report_line};
+use evm_ram::Image;
 use evm_room::NoMemory;
+use evm_streams::{Diagnostic, LineFault, report_line};
 use evm_text::cut_line;
 use sh_session::{
     InputFault, Line, PlainLine, ScriptStop, event_cpu, fault_detail, read_line, script_text,

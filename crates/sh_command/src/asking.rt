@@ -1,8 +1,8 @@
 //! Commands that look at the machine and leave it as it is.
 
 use crate::shell::{Outcome, Shell, Watch};
-use evm_program::Meter;
 use evm_room::NoMemory;
+use evm_streams::Meter;
 use sh_answers::{
     AnyDevice, Line, Machine, Names, Page, Snapshot, address_of, numbers_of, push_one, put_changes,
     put_harts, put_line, put_numbers, put_owners, put_place, put_plain, read_line,
@@ -74,7 +74,7 @@ fn put_watch(
 impl<M: Meter + Drop> Shell<'_, M> {
     /// Says which watched words have changed.
     pub(crate) fn tell_watches(&mut self, page: &mut Page) -> Result<(), NoMemory> {
-        let Some(machine) = self.bench.machine() else {
+        let Some(machine) = self.scripted.machine() else {
             return Ok(());
         };
         for watch in self.watches.iter_mut() {
@@ -92,7 +92,7 @@ impl<M: Meter + Drop> Shell<'_, M> {
         let Some(address) = address_of(&self.names.symbols, rest) else {
             return Ok(Outcome::Wanted(WATCH_FORM));
         };
-        let Some(machine) = self.bench.machine() else {
+        let Some(machine) = self.scripted.machine() else {
             return Ok(Outcome::NotBooted);
         };
         let value = word_at(machine, address);
@@ -171,7 +171,7 @@ impl<M: Meter + Drop> Shell<'_, M> {
         let Some(numbers) = numbers_of(&self.names, rest) else {
             return Ok(Outcome::Wanted(SHOW_FORM));
         };
-        let Some(machine) = self.bench.machine() else {
+        let Some(machine) = self.scripted.machine() else {
             return Ok(Outcome::NotBooted);
         };
         page.put(" ")?;
@@ -188,7 +188,7 @@ impl<M: Meter + Drop> Shell<'_, M> {
         if !rest.is_empty() {
             return Ok(Outcome::Wanted(MARK_FORM));
         }
-        let Some(machine) = self.bench.machine() else {
+        let Some(machine) = self.scripted.machine() else {
             return Ok(Outcome::NotBooted);
         };
         self.mark = Some(Snapshot::of(alloc, machine)?);
@@ -197,7 +197,7 @@ impl<M: Meter + Drop> Shell<'_, M> {
 
     /// `diff`: what has changed since the last `mark`.
     pub(crate) fn diff(&mut self, rest: &str, page: &mut Page) -> Result<Outcome, NoMemory> {
-        let Some(machine) = self.bench.machine() else {
+        let Some(machine) = self.scripted.machine() else {
             return Ok(Outcome::NotBooted);
         };
         let Some(mark) = &self.mark else {

@@ -3,7 +3,7 @@
 use evm_room::NoMemory;
 use sh_answers::push_one;
 use std::alloc::Global;
-use text_xml::{CaseEnd, Suite};
+use text_markup::{CaseEnd, Suite};
 
 /// The cases so far, and the files that belong to those that failed.
 #[derive(Debug, Drop)]

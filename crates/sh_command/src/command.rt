@@ -7,15 +7,13 @@ use crate::reading::{Finish, serve_lines};
 use crate::shell::Shell;
 use crate::words::{Job, job_of};
 use clap::ArgMatches;
-use command_lines::names_at;
 use evm_host::{
-    Ending, Message, System, USAGE, World, ended, image_at, memory_refused, not_created,
+    Ending, Message, System, USAGE, World, ended, image_at, memory_refused, names_at, not_created,
     not_opened, not_read, report, write_all,
 };
-use evm_image::Image;
-use evm_program::Meter;
+use evm_ram::Image;
 use evm_room::NoMemory;
-use evm_streams::{ReadFault, ReadStop};
+use evm_streams::{Meter, ReadFault, ReadStop};
 use sh_answers::{script_text, write_journal};
 use std::alloc::Global;
 
@@ -104,7 +102,7 @@ fn save_script<S: System, M: Meter + Drop>(
     path: &str,
     world: &mut World<S>,
 ) -> u8 {
-    match script_text(alloc, shell.bench().lines()) {
+    match script_text(alloc, shell.scripted().lines()) {
         Ok(text) => save(path, text.as_slice(), world),
         Err(_) => memory_refused(PROGRAM, world),
     }
@@ -116,7 +114,7 @@ fn save_journal<S: System, M: Meter + Drop>(
     path: &str,
     world: &mut World<S>,
 ) -> u8 {
-    let Some(machine) = shell.bench().machine() else {
+    let Some(machine) = shell.scripted().machine() else {
         return save(path, b"", world);
     };
     match write_journal(alloc, machine) {

@@ -2,9 +2,8 @@
 
 use crate::shell::Shell;
 use crate::typing::History;
-use evm_program::Meter;
 use evm_room::NoMemory;
-use evm_streams::{Cause, Reading, Sink, Source, WriteFault, write_all};
+use evm_streams::{Cause, Meter, Reading, Sink, Source, WriteFault, write_all};
 use evm_text::cut_ended;
 use sh_answers::Page;
 use std::alloc::Global;

@@ -3,8 +3,8 @@
 ghost use Rattle.std.specs.Prelude.{◌<◌, ◌≤◌, IfSome};
 
 use crate::shell::{Outcome, Shell};
-use evm_program::Meter;
 use evm_room::NoMemory;
+use evm_streams::Meter;
 use sh_answers::{
     Condition, Line, Page, ScriptStop, Snapshot, Swallowed, View, condition_of, holds, number_of,
     put_changes, put_decoded, put_plain, put_swallowed, read_line, report_stop,
@@ -62,7 +62,7 @@ impl<M: Meter + Drop> Shell<'_, M> {
         page: &mut Page,
     ) -> Result<bool, NoMemory> {
         let mut text = String::new(alloc);
-        match self.bench.run(alloc, line, &mut text, &mut self.notes) {
+        match self.scripted.run(alloc, line, &mut text, &mut self.notes) {
             Ok(()) => {
                 page.put(&text)?;
                 Ok(true)
@@ -70,7 +70,7 @@ impl<M: Meter + Drop> Shell<'_, M> {
             Err(ScriptStop::NoMemory) => Err(NoMemory),
             Err(stop) => {
                 self.failed = true;
-                let done = self.bench.lines();
+                let done = self.scripted.lines();
                 report_stop(alloc, page, self.image, done, number, line, stop)?;
                 Ok(false)
             }
@@ -79,7 +79,7 @@ impl<M: Meter + Drop> Shell<'_, M> {
 
     // What the machine is now, if there is one.
     fn shot(&self, alloc: Global) -> Result<Option<Snapshot>, NoMemory> {
-        match self.bench.machine() {
+        match self.scripted.machine() {
             None => Ok(None),
             Some(machine) => Ok(Some(Snapshot::of(alloc, machine)?)),
         }
@@ -98,7 +98,7 @@ impl<M: Meter + Drop> Shell<'_, M> {
         swallowed: Option<Swallowed>,
         page: &mut Page,
     ) -> Result<(), NoMemory> {
-        if let Some(machine) = self.bench.machine()
+        if let Some(machine) = self.scripted.machine()
             && let Some(before) = before
         {
             put_changes(page, &self.names, machine, before, swallowed)?;
@@ -132,14 +132,14 @@ impl<M: Meter + Drop> Shell<'_, M> {
     }
 
     fn decode(&self, view: &View, page: &mut Page) -> Result<(), NoMemory> {
-        match self.bench.machine() {
+        match self.scripted.machine() {
             None => Ok(()),
             Some(machine) => put_decoded(page, &self.names, machine, &self.notes, view),
         }
     }
 
     fn tell_swallowed(&self, c: u8, count: u32, page: &mut Page) -> Result<(), NoMemory> {
-        match self.bench.machine() {
+        match self.scripted.machine() {
             None => Ok(()),
             Some(machine) => put_swallowed(page, &self.names, machine, c, count),
         }
@@ -207,7 +207,7 @@ impl<M: Meter + Drop> Shell<'_, M> {
         let Some(count) = rounds_of(rest) else {
             return Ok(Outcome::Wanted(EACH_FORM));
         };
-        let Some(machine) = self.bench.machine() else {
+        let Some(machine) = self.scripted.machine() else {
             return Ok(Outcome::NotBooted);
         };
         let cpus = machine.cpu_count();
@@ -230,7 +230,7 @@ impl<M: Meter + Drop> Shell<'_, M> {
         page: &mut Page,
     ) -> Result<Option<u64>, NoMemory> {
         for done in 0..bound {
-            let Some(machine) = self.bench.machine() else {
+            let Some(machine) = self.scripted.machine() else {
                 return Ok(None);
             };
             if holds(condition, machine) {
@@ -242,7 +242,7 @@ impl<M: Meter + Drop> Shell<'_, M> {
                 return Ok(None);
             }
         }
-        match self.bench.machine() {
+        match self.scripted.machine() {
             Some(machine) if holds(condition, machine) => Ok(Some(bound)),
             _ => Ok(None),
         }
@@ -277,7 +277,7 @@ impl<M: Meter + Drop> Shell<'_, M> {
         let (Some(condition), Some(bound)) = (condition_of(&self.names, words), bound) else {
             return Ok(Outcome::Wanted(UNTIL_FORM));
         };
-        if self.bench.machine().is_none() {
+        if self.scripted.machine().is_none() {
             return Ok(Outcome::NotBooted);
         }
         let before = self.shot(alloc)?;

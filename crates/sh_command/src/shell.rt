@@ -3,10 +3,10 @@
 use crate::cases::Cases;
 use crate::commands::{Suggestion, UNKNOWN, missing_in, suggest};
 use crate::help::SHELL_HELP;
-use evm_image::Image;
-use evm_program::Meter;
+use evm_ram::Image;
 use evm_room::NoMemory;
-use sh_answers::{Bench, Names, Notes, Page, Snapshot, split_word};
+use evm_streams::Meter;
+use sh_answers::{Names, Notes, Page, ScriptedMachine, Snapshot, split_word};
 use std::alloc::Global;
 
 /// A word of RAM that is watched: its address, and what it was.
@@ -16,10 +16,10 @@ pub(crate) struct Watch {
     pub value: Option<u64>,
 }
 
-/// A shell over a bench.
+/// A shell over a scripted machine.
 #[derive(Drop)]
 pub struct Shell<'a, M: Meter + Drop> {
-    pub(crate) bench: Bench<'a>,
+    pub(crate) scripted: ScriptedMachine<'a>,
     pub(crate) image: &'a Image,
     pub(crate) names: Names,
     pub(crate) notes: Notes,
@@ -53,7 +53,7 @@ impl<'a, M: Meter + Drop> Shell<'a, M> {
     pub fn new(alloc: Global, image: &'a Image, names: Names, meter: M) -> Result<Self, NoMemory> {
         let notes = Notes::new(alloc)?;
         Ok(Shell {
-            bench: Bench::new(image),
+            scripted: ScriptedMachine::new(image),
             image,
             names,
             notes,
@@ -76,9 +76,9 @@ impl<'a, M: Meter + Drop> Shell<'a, M> {
         self.failed
     }
 
-    /// The bench, which has the machine and the lines of a script that made it.
-    pub fn bench(&self) -> &Bench<'a> {
-        &self.bench
+    /// The scripted machine, with the machine and the lines of a script that made it.
+    pub fn scripted(&self) -> &ScriptedMachine<'a> {
+        &self.scripted
     }
 
     // A command, from its keyword and the words behind it.
@@ -162,7 +162,7 @@ impl<'a, M: Meter + Drop> Shell<'a, M> {
     ///
     /// # Errors
     ///
-    /// Memory was refused. The bench is as the lines say that were done.
+    /// Memory was refused. The machine is as the lines say that were done.
     pub fn line(
         &mut self,
         alloc: Global,

@@ -1,10 +1,10 @@
 -- The text of lines has these lines.
 use Rattle.std.proofs.Common.{◌≡◌, ℕ, Bool, true, false, ◌&&◌, ◌==◌, inl, inr, List, [], ◌∷◌, ◌++◌, refl, sym, ◌∙◌, ap}
 use Rattle.std.specs.Prelude.{Option, Some, None}
-use Rattle.evm_image.specs.Images.{Contents}
+use Rattle.evm_ram.specs.Images.{Contents}
 use Rattle.sh_session.specs.Sitting.{Sitting}
-use Rattle.evm_program.specs.Devices.{program_devices}
-use Rattle.sh_session.specs.Bench.{IsScriptedIn, LeavesMachine}
+use Rattle.evm_devs.specs.Devices.{program_devices}
+use Rattle.sh_session.specs.ScriptedMachine.{IsScriptedIn, LeavesMachine}
 use Rattle.std.proofs.lemmas.Bool.{and_parts, cases_Bool}
 use Rattle.evm_diagnostics.specs.evm_text.Lines.{Text, Ended, text_of, with_byte, lines_in, text_lines}
 use Rattle.sh_session.specs.Scripted.{is_one_line, are_lines, script_of, script_machine}

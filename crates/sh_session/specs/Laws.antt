@@ -1,6 +1,6 @@
 -- The lines of a session as a script.
 use Rattle.std.specs.Prelude.{◌≡◌, List, Some}
-use Rattle.evm_image.specs.Images.{Contents}
+use Rattle.evm_ram.specs.Images.{Contents}
 use Rattle.evm_model.specs.Devices.{Attached}
 use Rattle.evm_diagnostics.specs.evm_text.Lines.{text_lines}
 use Rattle.sh_session.specs.Sitting.{Sitting}

@@ -1,7 +1,7 @@
 pub mod Sitting
 pub mod Scripted
 pub mod Laws
-pub mod Bench
+pub mod ScriptedMachine
 pub mod Notes
 pub mod Noted
 pub mod Noting

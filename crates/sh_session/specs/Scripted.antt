@@ -1,6 +1,6 @@
 -- What the lines of a script make: the first boots a machine, with its devices and an image in it, and each of the others changes it.
 use Rattle.std.specs.Prelude.{◌≡◌, ℕ, Bool, true, false, ◌&&◌, ◌==◌, if◌then◌else◌, List, [], ◌∷◌, ◌++◌, Option, Some, None, Result, Ok, Err}
-use Rattle.evm_image.specs.Images.{Contents}
+use Rattle.evm_ram.specs.Images.{Contents}
 use Rattle.evm_model.specs.Devices.{Attached}
 use Rattle.evm_model.specs.State.{State}
 use Rattle.evm_model.specs.Replay.{apply, bad_boot, start}

@@ -8,7 +8,7 @@ ghost use Rattle.evm_diagnostics.specs.evm_debug.declared.line.Line.TheVariants 
 use crate::stop::ScriptStop;
 use evm_dev::Device;
 use evm_diagnostics::{Boot, Devices, Line, Machine, Refusal, read_line};
-use evm_image::Image;
+use evm_ram::Image;
 use std::alloc::Global;
 
 fn stop_of(refusal: Refusal) -> ScriptStop {

@@ -1,7 +1,6 @@
 //! A machine that lines of a script drive, one at a time, with the lines that made it what it is.
 #![tactic(auto)]
 
-mod bench;
 mod booting;
 mod laws;
 mod notes;
@@ -9,10 +8,10 @@ mod noting;
 mod plain;
 mod running;
 mod script;
+mod scripted_machine;
 mod session;
 mod stop;
 
-pub use bench::Bench;
 pub use evm_devs::AnyDevice;
 pub use evm_diagnostics::{
     Boot, Devices, InputFault, Line, Machine, Refusal, View, event_cpu, fault_detail, read_line,
@@ -22,5 +21,6 @@ pub use laws::text_is_script;
 pub use notes::{LastCall, Notes};
 pub use plain::PlainLine;
 pub use script::script_text;
+pub use scripted_machine::ScriptedMachine;
 pub use session::Session;
 pub use stop::ScriptStop;

@@ -2,7 +2,7 @@
 
 ghost use Rattle.std.specs.Prelude.{◌≡◌, List, [], ◌∷◌, IfOk, OnOk, OnErr, Some};
 ghost use Rattle.std.specs.String.{string_bytes};
-ghost use Rattle.evm_image.specs.Images.{Contents};
+ghost use Rattle.evm_ram.specs.Images.{Contents};
 ghost use Rattle.evm_model.specs.Devices.{Attached};
 ghost use Rattle.sh_session.specs.Noting.{noted_read};
 ghost use Rattle.sh_session.specs.Scripted.{IsScripted, IsLineDone, booted_by};
@@ -15,7 +15,7 @@ use crate::running::run_on;
 use crate::stop::ScriptStop;
 use evm_dev::Device;
 use evm_diagnostics::{Devices, Machine};
-use evm_image::Image;
+use evm_ram::Image;
 use evm_room::grow;
 use std::alloc::Global;
 use std::marker::Model;

@@ -3,7 +3,7 @@
 use crate::line::{Line, line_of};
 use evm_devs::AnyDevice;
 use evm_elf::{assemble, read_image, write_image};
-use evm_image::Image;
+use evm_ram::Image;
 use gdb_answers::{Boot, LineEnd, Machine, Names, read_line, run_line};
 use std::alloc::Global;
 use std::rt::Files;

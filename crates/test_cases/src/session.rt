@@ -6,7 +6,7 @@ use crate::machine::{Setting, assembled, image_of, names_of, run_lines, setting_
 use crate::peer::{Heard, Sent};
 use evm_command::program_devices;
 use evm_devs::AnyDevice;
-use evm_image::Image;
+use evm_ram::Image;
 use gdb_answers::{Ended, GdbSession, Machine, serve_gdb};
 use std::alloc::Global;
 use std::io;

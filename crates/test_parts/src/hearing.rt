@@ -1,6 +1,6 @@
 //! A thread that hears GDB: a byte 3 asks for a stop, and a read that fails ends the hearing.
 
-use gdb_packets::{Ear, Hearing, HearingEnd, Interrupts};
+use gdb_packets::{Hearing, HearingEnd, InputThread, Interrupts};
 use std::io::{self, Error, ErrorKind, Read};
 use std::test::Fail;
 
@@ -28,26 +28,26 @@ fn gives<I: Read>(source: &mut I, wanted: &[u8]) -> Result<bool, Fail> {
 
 #[test]
 fn a_byte_3_asks_until_it_is_read(rt: HostRuntime) -> Result<(), Fail> {
-    let mut ear = Ear::new(rt, rt.alloc(), SENT)?;
-    assert!(rt; gives(&mut ear, b"$c#63".as_slice())?);
-    assert!(rt; ear.is_asked());
-    assert!(rt; gives(&mut ear, b"\x03".as_slice())?);
-    assert!(rt; !ear.is_asked());
-    assert!(rt; gives(&mut ear, b"+".as_slice())?);
-    assert!(rt; gives(&mut ear, b"".as_slice())?);
-    assert!(rt; matches!(ear.end(), Some(HearingEnd::EndOfInput)));
+    let mut input = InputThread::new(rt, rt.alloc(), SENT)?;
+    assert!(rt; gives(&mut input, b"$c#63".as_slice())?);
+    assert!(rt; input.is_asked());
+    assert!(rt; gives(&mut input, b"\x03".as_slice())?);
+    assert!(rt; !input.is_asked());
+    assert!(rt; gives(&mut input, b"+".as_slice())?);
+    assert!(rt; gives(&mut input, b"".as_slice())?);
+    assert!(rt; matches!(input.end(), Some(HearingEnd::EndOfInput)));
     Ok(())
 }
 
 #[test]
 fn a_read_that_fails_ends_the_hearing(rt: HostRuntime) -> Result<(), Fail> {
-    let mut ear = Ear::new(rt, rt.alloc(), Broken)?;
+    let mut input = InputThread::new(rt, rt.alloc(), Broken)?;
     let mut part = [0u8; 16];
-    match ear.read(part.as_mut_slice()) {
+    match input.read(part.as_mut_slice()) {
         Ok(_) => assert!(rt; false, "bytes of a broken source"),
         Err(error) => assert!(rt; error.kind() == ErrorKind::BrokenPipe),
     }
-    let end = ear.end();
+    let end = input.end();
     assert!(rt; matches!(end, Some(HearingEnd::ReadFailed(ErrorKind::BrokenPipe))));
     Ok(())
 }

@@ -1,7 +1,7 @@
 //! What a command line writes and answers, through the calls that `evltool` makes.
 
 use evm_devs::{AnyDevice, Console, MailRing, Pins};
-use evm_image::Image;
+use evm_ram::Image;
 use evm_serve::{
     Devices, Ending, ReadStop, RunOptions, assemble_to, import, read_utf8, replay_to, serve,
 };

@@ -6,7 +6,7 @@ use crate::engine::{
 use crate::folder::{bytes_of, has, spelled_bytes, text_of};
 use crate::row::{Job, Row};
 use crate::trials::{Kind, try_cuts, try_patches, try_texts};
-use evm_image::Image;
+use evm_ram::Image;
 use std::io;
 use std::rt::Files;
 

@@ -2,7 +2,7 @@
 
 use crate::engine::{Outcome, imported, replayed, served, served_with};
 use crate::spelling::{patched, unescaped};
-use evm_image::Image;
+use evm_ram::Image;
 use std::alloc::{AllocError, Global};
 use std::io;
 

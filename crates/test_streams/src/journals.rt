@@ -2,7 +2,7 @@
 
 use crate::fakes::{FAULTS, Sink, Source};
 use crate::runs::{no_image, options};
-use evm_image::Image;
+use evm_ram::Image;
 use evm_serve::replay_to;
 use std::alloc::Global;
 use std::io::{self, ErrorKind, Read};

@@ -3,8 +3,7 @@
 use evm_devs::Pins;
 use evm_diagnostics::{Answer, Event, Machine, Refusal};
 use evm_elf::read_image;
-use evm_image::Image;
-use evm_ram::BASE;
+use evm_ram::{BASE, Image};
 use std::alloc::Global;
 use std::process::Abort;
 use std::test::Fail;

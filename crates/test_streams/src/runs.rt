@@ -3,7 +3,7 @@
 use evm_devs::Pins;
 use evm_diagnostics::Devices;
 use evm_elf::{PROGRAM_MAX, read_image, write_bytes};
-use evm_image::Image;
+use evm_ram::Image;
 use evm_serve::RunOptions;
 use std::alloc::Global;
 use std::process::Abort;

@@ -4,7 +4,7 @@
 use crate::call::{Call, decimal, given, hexadecimal, sides};
 use crate::writing::{push, push_gap, push_hex, push_some, push_some_hexadecimal};
 use evm_elf::{ElfFault, assemble, image_detail, read_image, write_bytes, write_image};
-use evm_image::Image;
+use evm_ram::Image;
 use std::io::{self, ErrorKind};
 use text_symbols::Symbols;
 

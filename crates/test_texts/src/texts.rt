@@ -9,7 +9,7 @@ use evm_text::{
 };
 use std::alloc::Global;
 use std::io::{self, ErrorKind};
-use text_xml::{Draft, Key, Share, Tag, finished};
+use text_markup::{Draft, Key, Share, Tag, finished};
 
 /// The decimal number at the front.
 pub(crate) fn decimal_front(call: &Call<'_>, out: &mut String) -> io::Result<()> {
@@ -88,7 +88,7 @@ pub(crate) fn ended_line(call: &Call<'_>, out: &mut String) -> io::Result<()> {
 
 /// A string of JSON.
 pub(crate) fn json(call: &Call<'_>, out: &mut String) -> io::Result<()> {
-    given(text_json::push_quoted(out, call.argument))
+    given(text_markup::push_quoted(out, call.argument))
 }
 
 // A drawing of one text of a class, and of a circle that stands for events.

@@ -4,7 +4,7 @@ use Rattle.std.specs.Prelude.{flat_map}
 use Rattle.std.proofs.lemmas.Grind.{flat_map-append}
 use Rattle.std.proofs.lemmas.List.{take_more}
 use Rattle.evm_exec.specs.declared.hart.Hart.{Hart}
-use Rattle.trace_sites.specs.declared.place.CodePlace.{CodePlace}
+use Rattle.trace_records.specs.declared.place.CodePlace.{CodePlace}
 use Rattle.run_marks.specs.declared.mark.Mark.{Mark}
 use Rattle.trace_command.specs.Spots.{spots_of}
 

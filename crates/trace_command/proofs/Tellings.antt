@@ -1,8 +1,8 @@
 -- The calls of a run tell the items of its journal.
 use Rattle.std.proofs.Common.{◌≡◌, ◌⊎◌, ℕ, inl, inr, List, [], ◌++◌, length, refl, sym, subst, ◌∙◌}
-use Rattle.trace_sites.specs.Runs.{IsRun}
-use Rattle.trace_sites.specs.Runs.IsRun.{begins as none_told, goes_on}
-use Rattle.run_marks.specs.Walks.{Walked, place}
+use Rattle.trace_records.specs.Runs.{IsRun}
+use Rattle.trace_records.specs.Runs.IsRun.{begins as none_told, goes_on}
+use Rattle.run_walk.specs.Walks.{Walked, place}
 use Rattle.trace_records.specs.declared.change.Change.{Change}
 use Rattle.trace_command.specs.Instants.{instants_in}
 use Rattle.trace_command.specs.Tellings.{GoesOn, TellsCall, TellsItems, TellsOn}

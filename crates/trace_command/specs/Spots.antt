@@ -1,9 +1,9 @@
 -- The places that are told of an event: where tasks begin, run, wait and lock.
 use Rattle.std.specs.Prelude.{ℕ, ◌-◌, List, [], ◌∷◌, Option, Some, None, slice_get}
 use Rattle.evm_exec.specs.declared.hart.Hart.{Hart}
-use Rattle.trace_sites.specs.declared.place.Doing.{Doing}
-use Rattle.trace_sites.specs.declared.place.Doing.TheVariants.{Begins, Runs, Waits, Locks}
-use Rattle.trace_sites.specs.declared.place.CodePlace.{CodePlace}
+use Rattle.trace_records.specs.declared.place.Doing.{Doing}
+use Rattle.trace_records.specs.declared.place.Doing.TheVariants.{Begins, Runs, Waits, Locks}
+use Rattle.trace_records.specs.declared.place.CodePlace.{CodePlace}
 use Rattle.run_marks.specs.declared.mark.Mark.{Mark}
 use Rattle.run_marks.specs.declared.mark.Mark.TheVariants as marks
 

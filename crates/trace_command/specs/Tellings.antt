@@ -1,14 +1,14 @@
 -- The changes that tell of a journal, item by item.
 use Rattle.std.specs.Prelude.{◌≡◌, ◌⊎◌, ◌-◌, ◌^◌, ◌++◌, ℕ, List, [], Option, Some, None, length}
-use Rattle.evm_image.specs.Images.{Contents}
+use Rattle.evm_ram.specs.Images.{Contents}
 use Rattle.evm_model.specs.Devices.{Attached}
-use Rattle.trace_sites.specs.Labels.{LabelValue}
-use Rattle.trace_sites.specs.Placed.{placed_text}
-use Rattle.trace_sites.specs.declared.place.CodePlace.{CodePlace}
+use Rattle.trace_records.specs.Labels.{LabelValue}
+use Rattle.trace_records.specs.Placed.{placed_text}
+use Rattle.trace_records.specs.declared.place.CodePlace.{CodePlace}
 use Rattle.evm_streams.specs.Writes.{Took}
 use Rattle.evm_streams.specs.declared.sink.Writing.{Writing}
-use Rattle.run_marks.specs.Walks.{IsBegin, IsMarked, IsNext, Walked, place}
-use Rattle.run_marks.specs.declared.item.Item.{Item}
+use Rattle.run_walk.specs.Walks.{IsBegin, IsMarked, IsNext, Walked, place}
+use Rattle.run_walk.specs.declared.item.Item.{Item}
 use Rattle.run_marks.specs.declared.mark.Mark.{Mark}
 use Rattle.trace_records.specs.declared.change.Change.{Change}
 use Rattle.trace_records.specs.Changes.{trace_of}

@@ -2,7 +2,7 @@
 use Rattle.std.specs.Prelude.{ℕ, ◌+◌, ◌-◌, ◌*◌, ◌/◌, ◌^◌, Bool, true, false, if◌then◌else◌, min}
 use Rattle.evm_model.specs.declared.event.Event.{Event as EventOf}
 use Rattle.evm_model.specs.declared.event.Event.TheVariants.{Step, StepI, Tick}
-use Rattle.run_marks.specs.declared.item.Item.{Item}
+use Rattle.run_walk.specs.declared.item.Item.{Item}
 use Rattle.trace_command.specs.declared.clock.Clock.{Clock}
 use Rattle.trace_command.specs.declared.clock.Clock.TheVariants.{Events, Steps, Ticks}
 

@@ -15,7 +15,8 @@ use crate::states::current_track;
 use evm_lines::{LINE_COUNT, LINES};
 use evm_model::PROCESSOR_LIMIT;
 use evm_room::{Refused, copies};
-use run_marks::{Look, Mark, RunNames};
+use run_marks::{Mark, Observation};
+use run_walk::RunNames;
 use std::alloc::Global;
 use std::boxed::BoxedSlice;
 use trace_records::{Change, Detail, Flow, InterruptPassage, Track};
@@ -71,10 +72,15 @@ fn interrupt(
 
 // How many ticks there were.
 #[tactic(auto, using(crate::proofs::Told::told))]
-fn count_ticks(list: &mut Vec<Change>, look: &Look, at: u64) -> Result<(), Refused>
+fn count_ticks(list: &mut Vec<Change>, observation: &Observation, at: u64) -> Result<(), Refused>
     ensures { OnOk result (instants_in list.new.items ≡ instants_in list.old.items) }
 {
-    note(list, Track::OutOfBand(0), at, Detail::Ticks(look.ticks))
+    note(
+        list,
+        Track::OutOfBand(0),
+        at,
+        Detail::Ticks(observation.ticks),
+    )
 }
 
 /// The time of an event, and that behind it.
@@ -236,11 +242,47 @@ impl Changes {
         }
     }
 
+    // Tells that a line was raised, and begins its arrow.
+    #[tactic(auto, using(crate::proofs::Told::told))]
+    fn raised(
+        &mut self,
+        list: &mut Vec<Change>,
+        wakes: bool,
+        place: (u8, u8),
+        times: u64,
+        at: u64,
+    ) -> Result<(), Refused>
+        ensures { OnOk result (instants_in list.new.items ≡ instants_in list.old.items ++ line_instants wakes InterruptPassage.Raised place.0 place.1 times at) }
+    {
+        let (cpu, line) = place;
+        interrupt(list, wakes, InterruptPassage::Raised, place, times, at)?;
+        self.begin_arrow(list, cpu, line, at)
+    }
+
+    // Tells that a line was played, and ends its arrow.
+    #[tactic(auto, using(crate::proofs::Told::told))]
+    fn played(
+        &mut self,
+        list: &mut Vec<Change>,
+        observation: &Observation,
+        wakes: bool,
+        place: (u8, u8),
+        times: u64,
+        at: Span,
+    ) -> Result<(), Refused>
+        ensures { OnOk result (instants_in list.new.items ≡ instants_in list.old.items ++ line_instants wakes InterruptPassage.Played place.0 place.1 times at.at) }
+    {
+        let (cpu, line) = place;
+        interrupt(list, wakes, InterruptPassage::Played, place, times, at.at)?;
+        let track = current_track(observation, cpu);
+        self.end_arrow(list, track, entry_of(cpu, line), line, at.behind)
+    }
+
     #[tactic(auto, using(crate::proofs::Told::told))]
     fn mark(
         &mut self,
         list: &mut Vec<Change>,
-        look: &Look,
+        observation: &Observation,
         wakes: bool,
         mark: &Mark,
         at: Span,
@@ -249,42 +291,25 @@ impl Changes {
     {
         match mark {
             Mark::Raised { cpu, line, times } => {
-                let place = (*cpu, *line);
-                interrupt(list, wakes, InterruptPassage::Raised, place, *times, at.at)?;
-                self.begin_arrow(list, *cpu, *line, at.at)
+                self.raised(list, wakes, (*cpu, *line), *times, at.at)
             }
             Mark::Received { cpu, line, times } => {
                 let place = (*cpu, *line);
-                interrupt(
-                    list,
-                    wakes,
-                    InterruptPassage::Received,
-                    place,
-                    *times,
-                    at.at,
-                )
+                let passage = InterruptPassage::Received;
+                interrupt(list, wakes, passage, place, *times, at.at)
             }
             Mark::Played {
                 cpu,
                 line,
                 times,
                 ..
-            } => {
-                let place = (*cpu, *line);
-                interrupt(list, wakes, InterruptPassage::Played, place, *times, at.at)?;
-                let entry = entry_of(*cpu, *line);
-                self.end_arrow(list, current_track(look, *cpu), entry, *line, at.behind)
+            } => { self.played(list, observation, wakes, (*cpu, *line), *times, at) }
+            Mark::Owner { mutex, from, to } => {
+                self.owner(list, Flow::Mutex(*mutex), *from, *to, at)
             }
-            Mark::Owner { mutex, from, to } => self.owner(
-                list,
-                Flow::Mutex(*mutex),
-                *from,
-                *to,
-                at,
-            ),
             Mark::Created { task } => {
                 let labelled = is_labelled(&self.labelled, *task);
-                name_task(list, look, *task, at.behind, labelled)
+                name_task(list, observation, *task, at.behind, labelled)
             }
             Mark::Rank { task, to, .. } => {
                 note(list, Track::Task(*task), at.behind, Detail::Rank(*to))
@@ -292,18 +317,18 @@ impl Changes {
             Mark::Migrates { task, cpu } => {
                 note(list, Track::Task(*task), at.at, Detail::Moves(*cpu))
             }
-            Mark::Ticked { .. } => count_ticks(list, look, at.behind),
-            Mark::Runs { .. } => Ok(()),
-            Mark::Idles { .. } => Ok(()),
-            Mark::Stop { .. } => Ok(()),
-            Mark::Stall { .. } => Ok(()),
-            Mark::Waits { .. } => Ok(()),
-            Mark::Woken { .. } => Ok(()),
-            Mark::Deadline { .. } => Ok(()),
-            Mark::Moves { .. } => Ok(()),
-            Mark::Ended { .. } => Ok(()),
-            Mark::Faulted { .. } => Ok(()),
-            Mark::Notice { .. } => Ok(()),
+            Mark::Ticked { .. } => count_ticks(list, observation, at.behind),
+            Mark::Runs { .. }
+            | Mark::Idles { .. }
+            | Mark::Stop { .. }
+            | Mark::Stall { .. }
+            | Mark::Waits { .. }
+            | Mark::Woken { .. }
+            | Mark::Deadline { .. }
+            | Mark::Moves { .. }
+            | Mark::Ended { .. }
+            | Mark::Faulted { .. }
+            | Mark::Notice { .. } => Ok(()),
         }
     }
 
@@ -311,7 +336,7 @@ impl Changes {
     fn marks(
         &mut self,
         list: &mut Vec<Change>,
-        look: &Look,
+        observation: &Observation,
         wakes: bool,
         marks: &[Mark],
         at: Span,
@@ -319,30 +344,34 @@ impl Changes {
         ensures { OnOk result (instants_in list.new.items ≡ instants_in list.old.items ++ flat_map (instants_of wakes at.at) marks.now) }
     {
         for mark in marks {
-            self.mark(list, look, wakes, mark, at)?;
+            self.mark(list, observation, wakes, mark, at)?;
         }
         Ok(())
     }
 
     // Keeps what the processors do.
-    fn keep(&mut self, look: &Look) {
+    fn keep(&mut self, observation: &Observation) {
         for cpu in 0..PROCESSOR_LIMIT as u8 {
-            self.current[usize::from(cpu)] = current_track(look, cpu);
+            self.current[usize::from(cpu)] = current_track(observation, cpu);
         }
     }
 
     /// Tells names, ranks and what the tracks show before the first event.
     #[tactic(auto, using(crate::proofs::Told::told))]
-    pub(crate) fn begin(&mut self, list: &mut Vec<Change>, look: &Look) -> Result<(), Refused>
+    pub(crate) fn begin(
+        &mut self,
+        list: &mut Vec<Change>,
+        observation: &Observation,
+    ) -> Result<(), Refused>
         ensures { OnOk result (instants_in list.new.items ≡ instants_in list.old.items) }
     {
         note(list, Track::Task(0), 0, Detail::ProcessName)?;
         note(list, Track::Lines(0), 0, Detail::ProcessName)?;
-        name_processors(list, look.cpu_count)?;
-        name_tasks(list, look, &self.labelled)?;
-        count_ticks(list, look, 0)?;
-        self.keep(look);
-        show(list, look, 0)
+        name_processors(list, observation.cpu_count)?;
+        name_tasks(list, observation, &self.labelled)?;
+        count_ticks(list, observation, 0)?;
+        self.keep(observation);
+        show(list, observation, 0)
     }
 
     /// Tells an event: its marks, and what the tracks show after it.
@@ -350,26 +379,31 @@ impl Changes {
     pub(crate) fn event(
         &mut self,
         list: &mut Vec<Change>,
-        look: &Look,
+        observation: &Observation,
         marks: &[Mark],
         at: Span,
     ) -> Result<(), Refused>
         ensures { OnOk result (instants_in list.new.items ≡ instants_in list.old.items ++ event_instants at.at marks.now) }
     {
-        self.marks(list, look, ends_wait(marks), marks, at)?;
+        self.marks(list, observation, ends_wait(marks), marks, at)?;
         // without a mark no track shows anything else
         if marks.is_empty() {
             return Ok(());
         }
-        self.keep(look);
-        show(list, look, at.behind)
+        self.keep(observation);
+        show(list, observation, at.behind)
     }
 
     /// Tells that the tracks show nothing more, behind the last event.
-    pub(crate) fn end(&self, list: &mut Vec<Change>, look: &Look, at: u64) -> Result<(), Refused>
+    pub(crate) fn end(
+        &self,
+        list: &mut Vec<Change>,
+        observation: &Observation,
+        at: u64,
+    ) -> Result<(), Refused>
         ensures { OnOk result (instants_in list.new.items ≡ instants_in list.old.items) }
     {
-        end_processors(list, look.cpu_count, at)?;
-        end_tasks(list, look.task_count, at)
+        end_processors(list, observation.cpu_count, at)?;
+        end_tasks(list, observation.task_count, at)
     }
 }

@@ -3,7 +3,7 @@
 ghost use Rattle.std.specs.Prelude.{◌≡◌};
 ghost use Rattle.trace_command.specs.Times.{is_step, is_tick_event, ticks_behind, time_behind};
 
-use run_marks::{Event, Item};
+use run_walk::{Event, Item};
 
 /// What the clock of a trace counts.
 #[derive(Clone, Copy, Debug, PartialEq, Eq)]

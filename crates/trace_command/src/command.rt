@@ -3,16 +3,16 @@
 use crate::tracing::{TraceEnd, trace_journal};
 use crate::words::{Job, job_of};
 use clap::ArgMatches;
-use command_lines::names_at;
-use evm_devs::AnyDevice;
+use evm_devs::{AnyDevice, program_devices};
 use evm_host::{
-    Devices, Ending, FAILED, Known, Message, Sink, System, USAGE, Verdict, World, ended,
-    ended_with, failed_write_message, image_at, memory_refused, not_created, report, text_at,
+    Devices, Ending, FAILED, Input, Message, Sink, System, USAGE, Verdict, World, ended,
+    ended_with, failed_write_message, image_at, memory_refused, names_at, not_created, report,
+    text_at,
 };
-use evm_image::Image;
-use evm_program::{Meter, program_devices};
+use evm_ram::Image;
 use evm_room::Refused;
-use run_marks::{Names, RunNames};
+use evm_streams::Meter;
+use run_walk::{Names, RunNames};
 use std::alloc::Global;
 
 /// The name in front of messages that are about no file.
@@ -29,12 +29,12 @@ fn traced<E: Sink>(
     outcome: Result<(), TraceEnd>,
     errors: &mut E,
 ) -> u8 {
-    let known = Known::Lines(Some(image), journal.as_bytes());
+    let input = Input::Lines(Some(image), journal.as_bytes());
     match outcome {
         Ok(()) => 0,
         Err(TraceEnd::AtFault(fault)) => {
             let ending = Ending::Complete(Verdict::Refused(fault));
-            ended_with(known, job.journal, &ending, errors)
+            ended_with(input, job.journal, &ending, errors)
         }
         Err(TraceEnd::NoMemory) => ended(PROGRAM, &Ending::NoMemory, errors),
         Err(TraceEnd::WriteFailed(fault)) => {

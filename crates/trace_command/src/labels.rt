@@ -2,9 +2,10 @@
 
 use evm_model::TASK_LIMIT;
 use evm_room::{Refused, grow, push_text};
-use run_marks::{Kind, Mark, RunNames};
+use run_marks::Mark;
+use run_walk::{Kind, RunNames};
 use std::alloc::Global;
-use trace_sites::{Bearer, Label};
+use trace_records::{Bearer, Label};
 
 fn label(
     alloc: Global,

@@ -6,7 +6,8 @@ ghost use Rattle.trace_command.specs.Instants.{instants_in};
 use crate::noting::note;
 use evm_model::TASK_LIMIT;
 use evm_room::Refused;
-use run_marks::{Look, RunNames};
+use run_marks::Observation;
+use run_walk::RunNames;
 use trace_records::{Change, Detail, Track};
 
 /// Of each task, whether a label names its track.
@@ -66,7 +67,7 @@ fn name_track(list: &mut Vec<Change>, task: u8, at: u64, labelled: bool) -> Resu
 #[tactic(auto, using(crate::proofs::Told::told))]
 pub(crate) fn name_task(
     list: &mut Vec<Change>,
-    look: &Look,
+    observation: &Observation,
     task: u8,
     at: u64,
     labelled: bool,
@@ -74,7 +75,7 @@ pub(crate) fn name_task(
     ensures { OnOk result (instants_in list.new.items ≡ instants_in list.old.items) }
 {
     name_track(list, task, at, labelled)?;
-    match look.ranks.get(usize::from(task)) {
+    match observation.ranks.get(usize::from(task)) {
         None => Ok(()),
         Some(rank) => note(list, Track::Task(task), at, Detail::Rank(*rank)),
     }
@@ -83,14 +84,14 @@ pub(crate) fn name_task(
 /// Those of the tracks of tasks.
 pub(crate) fn name_tasks(
     list: &mut Vec<Change>,
-    look: &Look,
+    observation: &Observation,
     labelled: &Labelled,
 ) -> Result<(), Refused>
     ensures { OnOk result (instants_in list.new.items ≡ instants_in list.old.items) }
 {
-    for task in 0..look.task_count {
+    for task in 0..observation.task_count {
         let is_named = is_labelled(labelled, task);
-        name_task(list, look, task, 0, is_named)?;
+        name_task(list, observation, task, 0, is_named)?;
     }
     Ok(())
 }

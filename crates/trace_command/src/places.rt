@@ -5,8 +5,9 @@ ghost use Rattle.trace_command.specs.Spots.{spot_of, owner_place, spots_of};
 
 use evm_devs::AnyDevice;
 use evm_room::{Refused, grow};
-use run_marks::{Machine, Mark};
-use trace_sites::{CodePlace, Doing};
+use run_marks::Mark;
+use run_walk::Machine;
+use trace_records::{CodePlace, Doing};
 
 /// How many bytes behind its ECALL a task is that waits.
 const CALL: u64 = 4;

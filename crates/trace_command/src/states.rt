@@ -1,7 +1,7 @@
 //! What a track shows of what is seen of the machine.
 
 use evm_model::{Stage, Task, TaskState, Wait};
-use run_marks::{Lane, Look, Running};
+use run_marks::{Lane, Observation, Running};
 use trace_records::{State, Track};
 
 /// The state of the out-of-band stage of a processor, and that of its in-band stage, which is idle where it runs no task.
@@ -16,8 +16,8 @@ pub(crate) fn stage_states(lane: &Lane) -> (Option<State>, Option<State>) {
 }
 
 /// The track of a processor that shows something: that of the stage on which it runs a task, else that of its in-band stage.
-pub(crate) fn current_track(look: &Look, cpu: u8) -> Track {
-    match running_at(look, cpu) {
+pub(crate) fn current_track(observation: &Observation, cpu: u8) -> Track {
+    match running_at(observation, cpu) {
         None => Track::InBand(cpu),
         Some(running) => match running.stage {
             Stage::OutOfBand => Track::OutOfBand(cpu),
@@ -26,15 +26,15 @@ pub(crate) fn current_track(look: &Look, cpu: u8) -> Track {
     }
 }
 
-fn running_at(look: &Look, cpu: u8) -> Option<Running> {
-    match look.lanes.get(usize::from(cpu)) {
+fn running_at(observation: &Observation, cpu: u8) -> Option<Running> {
+    match observation.lanes.get(usize::from(cpu)) {
         None => None,
         Some(lane) => lane.running,
     }
 }
 
-fn runs(look: &Look, cpu: u8, task: u8) -> bool {
-    match running_at(look, cpu) {
+fn runs(observation: &Observation, cpu: u8, task: u8) -> bool {
+    match running_at(observation, cpu) {
         None => false,
         Some(running) => running.task == task,
     }
@@ -54,9 +54,10 @@ fn wait_state(wait: Wait) -> State {
 }
 
 /// The state of a task.
-pub(crate) fn task_state(look: &Look, number: u8, task: &Task) -> State {
+pub(crate) fn task_state(observation: &Observation, number: u8, task: &Task) -> State {
     match task.state {
-        TaskState::InReady | TaskState::OobReady if runs(look, task.cpu, number) => State::Running,
+        TaskState::InReady | TaskState::OobReady if runs(observation, task.cpu, number) =>
+            State::Running,
         TaskState::InReady => State::InBand,
         TaskState::OobReady => State::OutOfBand,
         TaskState::Waits(wait) => wait_state(wait),

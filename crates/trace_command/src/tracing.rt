@@ -4,21 +4,23 @@ ghost use Rattle.std.specs.Prelude.{◌≡◌, ◌≢◌, ◌++◌, [], true, Is
 ghost use Rattle.trace_command.specs.Instants.{event_instants, instants_in};
 ghost use Rattle.trace_command.specs.Times.{time_behind};
 ghost use Rattle.trace_command.specs.Tellings.{GoesOn, IsTraceOf, IsTraceOfText, TellsCall, TellsOn};
-ghost use Rattle.trace_sites.specs.Placed.{IsPlacedSomewhere};
+ghost use Rattle.trace_records.specs.Placed.{IsPlacedSomewhere};
 
 use crate::changes::{Changes, Span};
 use crate::clock::Clock;
 use crate::labels::{label_marks, label_tasks};
 use crate::places::{place_marks, place_tasks};
 use evm_devs::AnyDevice;
-use evm_image::Image;
-use evm_program::Meter;
+use evm_ram::Image;
 use evm_room::Refused;
-use evm_streams::{Sink, WriteFault};
-use run_marks::{Devices, InputFault, Item, Mark, RunNames, Walk, WalkStop};
+use evm_streams::{Meter, Sink, WriteFault};
+use run_marks::Mark;
+use run_walk::{Devices, InputFault, Item, RunNames, Walk, WalkStop};
 use std::alloc::Global;
-use trace_records::{Change, RunStop, Teller, Told, TraceStop};
-use trace_sites::{CodePlace, Label, Placer, Symbols, trace_places};
+use trace_records::{
+    Change, CodePlace, Label, NextChanges, Placer, RunStop, Symbols, Teller, TraceStop,
+    trace_places,
+};
 
 /// Why a run is not traced to its end.
 #[derive(Clone, Copy, Debug)]
@@ -61,13 +63,13 @@ pub struct Telling<'n, 'm, M: Meter> {
     meter: &'m mut M,
 }
 
-fn told(outcome: Result<(), Refused>) -> Told
-    ensures changes { result ≡ Told.Changes → IsOk outcome }
-    ensures end { result ≢ Told.End }
+fn next_changes(outcome: Result<(), Refused>) -> NextChanges
+    ensures changes { result ≡ NextChanges.Changes → IsOk outcome }
+    ensures end { result ≢ NextChanges.End }
 {
     match outcome {
-        Ok(()) => Told::Changes,
-        Err(_) => Told::NoMemory,
+        Ok(()) => NextChanges::Changes,
+        Err(_) => NextChanges::NoMemory,
     }
 }
 
@@ -86,7 +88,7 @@ impl<M: Meter> Telling<'_, '_, M> {
             place_marks(&mut self.places, self.walk.machine(), marks, at.at)?;
         }
         label_marks(alloc, &mut self.labels, names, marks, at.behind)?;
-        self.changes.event(list, self.walk.look(), marks, at)
+        self.changes.event(list, self.walk.observation(), marks, at)
     }
 
     // Tells an item, whose marks were found: a quiet one has none, and is no event of the trace.
@@ -122,67 +124,67 @@ impl<M: Meter> Telling<'_, '_, M> {
         }
         let (alloc, names) = (self.alloc, self.names);
         label_tasks(alloc, &mut self.labels, names)?;
-        self.changes.begin(list, self.walk.look())
+        self.changes.begin(list, self.walk.observation())
     }
 
     // The next event, or the next run of Steps that change only registers and RAM.
-    fn walk_on(&mut self, list: &mut Vec<Change>) -> Told
-        ensures tells { list.old.items ≡ [] → result ≡ Told.Changes → TellsOn self.old.clock self.old.walk self.new.walk self.old.at self.new.at list.new.items }
-        ensures goes_on { self.old.phase ≡ Phase.Goes → result ≡ Told.Changes → GoesOn self.new.phase self.new.walk }
-        ensures end { result ≢ Told.End }
+    fn walk_on(&mut self, list: &mut Vec<Change>) -> NextChanges
+        ensures tells { list.old.items ≡ [] → result ≡ NextChanges.Changes → TellsOn self.old.clock self.old.walk self.new.walk self.old.at self.new.at list.new.items }
+        ensures goes_on { self.old.phase ≡ Phase.Goes → result ≡ NextChanges.Changes → GoesOn self.new.phase self.new.walk }
+        ensures end { result ≢ NextChanges.End }
         ensures clock { self.new.clock ≡ self.old.clock }
     {
         self.meter.passed(self.walk.next_event());
         match self.walk.next(&mut self.marks) {
-            Err(WalkStop::NoMemory) => Told::NoMemory,
+            Err(WalkStop::NoMemory) => NextChanges::NoMemory,
             Err(WalkStop::AtFault(fault)) => {
                 self.fault = Some(fault);
-                Told::Fault
+                NextChanges::Fault
             }
             Ok(None) => {
                 self.phase = Phase::Ends;
-                Told::Changes
+                NextChanges::Changes
             }
-            Ok(Some(item)) => told(self.item(list, &item)),
+            Ok(Some(item)) => next_changes(self.item(list, &item)),
         }
     }
 
-    fn begin(&mut self, list: &mut Vec<Change>) -> Told
-        ensures instants { result ≡ Told.Changes → instants_in list.new.items ≡ instants_in list.old.items }
+    fn begin(&mut self, list: &mut Vec<Change>) -> NextChanges
+        ensures instants { result ≡ NextChanges.Changes → instants_in list.new.items ≡ instants_in list.old.items }
         ensures walk { self.new.walk ≡ self.old.walk }
         ensures phase { self.new.phase ≡ Phase.Goes }
         ensures clock { self.new.clock ≡ self.old.clock }
         ensures time { self.new.at ≡ self.old.at }
-        ensures end { result ≢ Told.End }
+        ensures end { result ≢ NextChanges.End }
     {
         self.phase = Phase::Goes;
-        told(self.first(list))
+        next_changes(self.first(list))
     }
 
     // Tells the end, behind the last one.
-    fn end(&mut self, list: &mut Vec<Change>) -> Told
-        ensures instants { result ≡ Told.Changes → instants_in list.new.items ≡ instants_in list.old.items }
+    fn end(&mut self, list: &mut Vec<Change>) -> NextChanges
+        ensures instants { result ≡ NextChanges.Changes → instants_in list.new.items ≡ instants_in list.old.items }
         ensures walk { self.new.walk ≡ self.old.walk }
         ensures phase { self.new.phase ≡ Phase.Ended }
         ensures clock { self.new.clock ≡ self.old.clock }
         ensures time { self.new.at ≡ self.old.at }
-        ensures end { result ≢ Told.End }
+        ensures end { result ≢ NextChanges.End }
     {
         self.phase = Phase::Ended;
         let last = self.at.saturating_add(1);
-        told(self.changes.end(list, self.walk.look(), last))
+        next_changes(self.changes.end(list, self.walk.observation(), last))
     }
 
-    fn go_on(&mut self, list: &mut Vec<Change>) -> Told
-        ensures tells { list.old.items ≡ [] → result ≡ Told.Changes → TellsCall self.old.clock self.old.phase self.old.walk self.old.at list.new.items self.new.phase self.new.walk self.new.at }
+    fn go_on(&mut self, list: &mut Vec<Change>) -> NextChanges
+        ensures tells { list.old.items ≡ [] → result ≡ NextChanges.Changes → TellsCall self.old.clock self.old.phase self.old.walk self.old.at list.new.items self.new.phase self.new.walk self.new.at }
         ensures clock { self.new.clock ≡ self.old.clock }
-        ensures end { result ≡ Told.End → self.old.phase ≡ Phase.Ended }
+        ensures end { result ≡ NextChanges.End → self.old.phase ≡ Phase.Ended }
     {
         match self.phase {
             Phase::Begins => self.begin(list),
             Phase::Goes => self.walk_on(list),
             Phase::Ends => self.end(list),
-            Phase::Ended => Told::End,
+            Phase::Ended => NextChanges::End,
         }
     }
 }
@@ -196,7 +198,7 @@ impl<M: Meter> Teller for Telling<'_, '_, M> {
 
     ghost ended = { λ a. a.phase ≡ Ended };
 
-    fn next(&mut self, changes: &mut Vec<Change>) -> Told {
+    fn next(&mut self, changes: &mut Vec<Change>) -> NextChanges {
         self.go_on(changes)
     }
 }

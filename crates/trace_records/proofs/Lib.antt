@@ -1,4 +1,6 @@
-pub mod Lines
 pub mod Follows
-pub mod Traces
+pub mod Lines
+pub mod PlaceLines
+pub mod Placing
 pub mod Telling
+pub mod Traces

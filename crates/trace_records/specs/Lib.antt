@@ -1,6 +1,11 @@
-pub mod Names
-pub mod Entries
-pub mod Templates
 pub mod Changes
+pub mod Entries
+pub mod Labels
 pub mod Laws
+pub mod Names
+pub mod Pieces
+pub mod Placed
+pub mod Places
+pub mod Runs
 pub mod Telling
+pub mod Templates

@@ -10,7 +10,7 @@ use std::alloc::Global;
 
 /// What a call of a teller found.
 #[derive(Clone, Copy, Debug, PartialEq, Eq)]
-pub enum Told {
+pub enum NextChanges {
     /// Changes, or none for now.
     Changes,
     /// The run has ended.
@@ -33,9 +33,9 @@ pub trait Teller {
     ghost ended: { Self → Type 0 };
 
     /// Puts the next changes into a list that is empty.
-    fn next(&mut self, changes: &mut Vec<Change>) -> Told
-        ensures changes { changes.old.items ≡ [] → result ≡ Told.Changes → tells self.old changes.new.items self.new }
-        ensures end { result ≡ Told.End → ended self.old };
+    fn next(&mut self, changes: &mut Vec<Change>) -> NextChanges
+        ensures changes { changes.old.items ≡ [] → result ≡ NextChanges.Changes → tells self.old changes.new.items self.new }
+        ensures end { result ≡ NextChanges.End → ended self.old };
 }
 
 /// Why a run is not traced to its end.
@@ -61,13 +61,13 @@ fn tell_run<T: Teller, W: Sink>(
     for _ in 0..calls {
         changes.clear();
         match teller.next(&mut changes) {
-            Told::Changes => match trace.tell_more(sink, changes.as_slice()) {
+            NextChanges::Changes => match trace.tell_more(sink, changes.as_slice()) {
                 Ok(()) => {}
                 Err(stop) => return Err(RunStop::Trace(stop)),
             },
-            Told::End => return Ok(()),
-            Told::Fault => return Err(RunStop::Fault),
-            Told::NoMemory => return Err(RunStop::Trace(TraceStop::NoMemory)),
+            NextChanges::End => return Ok(()),
+            NextChanges::Fault => return Err(RunStop::Fault),
+            NextChanges::NoMemory => return Err(RunStop::Trace(TraceStop::NoMemory)),
         }
     }
     Ok(())

@@ -2,11 +2,14 @@
 
 use crate::parsing::parse;
 use clap::ArgMatches;
-use command_lines::{names_at, no_words, refuse};
-use evm_host::{System, USAGE, World, host_world, image_at, memory_refused, words_of};
-use evm_program::{Progress, program_devices};
+use evm_devs::program_devices;
+use evm_host::{
+    System, USAGE, World, host_world, image_at, memory_refused, names_at, no_words, refuse,
+    words_of,
+};
+use evm_streams::Progress;
 use gdb_command::gdb;
-use gdb_packets::Ear;
+use gdb_packets::InputThread;
 use hunt_command::{HuntProgress, hunt_for};
 use run_command::{journal_for, run_for};
 use sh_command::sh;
@@ -72,8 +75,8 @@ fn serve_gdb<
     R: Threads + Wait + Copy + Send + Drop + 'static,
     I: Read + Send + Drop + 'static,
 >(threads: R, alloc: Global, words: &ArgMatches<'_>, heard: I, world: &mut World<S>) -> u8 {
-    match Ear::new(threads, alloc, heard) {
-        Ok(mut ear) => gdb(alloc, words, &mut ear, world),
+    match InputThread::new(threads, alloc, heard) {
+        Ok(mut input) => gdb(alloc, words, &mut input, world),
         Err(_) => memory_refused(PROGRAM, world),
     }
 }

@@ -6,7 +6,7 @@ use crate::table::{
 };
 use clap::builder::ValueParser;
 use clap::{Arg, ArgAction, ArgMatches, Command, Error};
-use command_lines::VERSION;
+use evm_host::VERSION;
 use std::alloc::{AllocError, Global};
 
 // A word that stands at its place.

@@ -4,17 +4,17 @@ use Rattle.evm_streams.specs.declared.sink.Writing.{Writing}
 use Rattle.evm_streams.specs.Writes.{Took}
 use Rattle.evm_host.specs.declared.system.OpenFault.{OpenFault}
 use Rattle.evm_host.specs.declared.system.World.{World}
-use Rattle.evm_image.specs.Images.{Contents}
+use Rattle.evm_ram.specs.Images.{Contents}
 use Rattle.evm_model.specs.Devices.{Attached}
 use Rattle.evm_model.specs.Event.{Event}
-use Rattle.view_picture.specs.run_marks.Items.{outline}
-use Rattle.view_picture.specs.run_marks.Walks.{IsBegin, Walked}
+use Rattle.view_picture.specs.run_walk.Items.{outline}
+use Rattle.view_picture.specs.run_walk.Walks.{IsBegin, Walked}
 use Rattle.view_picture.specs.Boxes.{boxes_of}
 use Rattle.view_picture.specs.view_timeline.Rows.{IsWindow}
 use Rattle.view_picture.specs.view_timeline.declared.cells.Timeline.{Timeline}
 use Rattle.view_picture.specs.view_timeline.declared.gathering.Window.{Window}
-use Rattle.text_xml.specs.Xml.{IsElement}
-use Rattle.text_xml.specs.declared.names.Tag.TheVariants.{Svg}
+use Rattle.text_markup.specs.Xml.{IsElement}
+use Rattle.text_markup.specs.declared.names.Tag.TheVariants.{Svg}
 use Rattle.view_page.specs.Pages.{HoldsRun}
 use Rattle.view_command.specs.declared.drawing.ViewEnd.{ViewEnd}
 use Rattle.view_command.specs.declared.drawing.ViewEnd.TheVariants.{AtFault, NoMemory, WriteFailed}

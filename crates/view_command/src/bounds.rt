@@ -1,9 +1,8 @@
 //! Where a window begins and ends.
 
 use crate::drawing::ViewEnd;
-use evm_devs::AnyDevice;
-use evm_image::Image;
-use evm_program::program_devices;
+use evm_devs::{AnyDevice, program_devices};
+use evm_ram::Image;
 use std::alloc::Global;
 use view_picture::{Landmark, Naming, Walk, Window, find};
 

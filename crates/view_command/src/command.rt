@@ -8,11 +8,12 @@ use crate::reports::{Files, PROGRAM, STANDARD_OUTPUT, stopped};
 use crate::showing::{Input, show_run};
 use crate::words::{Job, NoJob, job_of};
 use clap::ArgMatches;
-use command_lines::names_at;
 use evm_devs::AnyDevice;
-use evm_host::{Devices, Message, System, USAGE, World, image_at, memory_refused, report, text_at};
-use evm_image::Image;
-use evm_program::Meter;
+use evm_host::{
+    Devices, Message, System, USAGE, World, image_at, memory_refused, names_at, report, text_at,
+};
+use evm_ram::Image;
+use evm_streams::Meter;
 use std::alloc::Global;
 use view_picture::Naming;
 

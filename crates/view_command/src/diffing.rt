@@ -9,8 +9,8 @@ use crate::showing::{Input, show_run};
 use crate::telling::{Sides, alike_text, boots_text, parting_text};
 use evm_devs::AnyDevice;
 use evm_host::{Devices, Ending, System, World, ended, text_at, write_all};
-use evm_program::Meter;
 use evm_room::Refused;
+use evm_streams::Meter;
 use std::alloc::Global;
 use view_picture::{Boot, InputFault, Journal, JournalFaultKind, read_history};
 

@@ -5,9 +5,8 @@ ghost use Rattle.evm_streams.specs.Writes.{Took};
 ghost use Rattle.view_command.specs.Viewing.{IsPictured, TellsRun};
 
 use evm_devs::AnyDevice;
-use evm_image::Image;
-use evm_program::Meter;
-use evm_streams::{Sink, WriteFault, write_all};
+use evm_ram::Image;
+use evm_streams::{Meter, Sink, WriteFault, write_all};
 use std::alloc::Global;
 use view_picture::{
     Devices, InputFault, Picture, Timeline, Walk, WalkStop, Window, drawn, gather, written,

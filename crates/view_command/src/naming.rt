@@ -1,7 +1,7 @@
 //! The names of a journal's run.
 
-use evm_image::Image;
-use evm_program::program_devices;
+use evm_devs::program_devices;
+use evm_ram::Image;
 use evm_room::Refused;
 use std::alloc::Global;
 use view_picture::{Names, RunNames};

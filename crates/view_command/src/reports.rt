@@ -5,9 +5,9 @@ ghost use Rattle.view_command.specs.Viewing.{status_of};
 
 use crate::drawing::ViewEnd;
 use evm_host::{
-    Ending, FAILED, Known, Message, Sink, Verdict, ended, ended_with, failed_write_message, report,
+    Ending, FAILED, Input, Message, Sink, Verdict, ended, ended_with, failed_write_message, report,
 };
-use evm_image::Image;
+use evm_ram::Image;
 
 /// The name in front of messages that are about no file.
 pub const PROGRAM: &str = "vardozek view";
@@ -44,8 +44,8 @@ pub(crate) fn stopped<E: Sink>(files: Files<'_>, end: ViewEnd, errors: &mut E) -
     match end {
         ViewEnd::AtFault(fault) => {
             let ending = Ending::Complete(Verdict::Refused(fault));
-            let known = Known::Lines(Some(files.image), files.journal.as_bytes());
-            ended_with(known, files.name, &ending, errors)
+            let input = Input::Lines(Some(files.image), files.journal.as_bytes());
+            ended_with(input, files.name, &ending, errors)
         }
         ViewEnd::NoMemory => ended(PROGRAM, &Ending::NoMemory, errors),
         ViewEnd::WriteFailed(fault) => {

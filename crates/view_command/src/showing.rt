@@ -8,8 +8,8 @@ use crate::reports::{Files, STANDARD_OUTPUT, stopped};
 use crate::words::Job;
 use evm_devs::AnyDevice;
 use evm_host::{Devices, Sink, System, World, not_created};
-use evm_image::Image;
-use evm_program::Meter;
+use evm_ram::Image;
+use evm_streams::Meter;
 use std::alloc::Global;
 use view_picture::{Naming, Picture, Timeline, Window};
 

@@ -10,7 +10,7 @@ const LOUD_EVENTS = { 72: 'tick', 73: 'poke', 74: 'break', 75: 'unbreak' };
 const CLOCK = 72, POKE = 73, PLACES = 99;
 const RAM = 0x80000000;
 const NEWEST = 3; // profile
-const STAGES = ['out-of-band', 'in-band'];
+const STAGES = ['out-of-band', 'in-band'], READY = ['ready-0', 'ready-1'];
 const FAULTS = { 0: 'a jump to an address that is no multiple of 4', 1: 'a fetch from outside RAM', 2: 'a word that is no instruction', 5: 'a load from outside memory', 7: 'a store to outside memory' };
 const NOTICES = ['', 'demoted by a call', 'demoted by a fault', 'its lock would never end', 'it unlocked a mutex that it does not own', 'the watchdog demoted the task'];
 const CLASSES = ['no class', 'first in first out', 'round robin', 'weak'];
@@ -47,14 +47,15 @@ for (const [length, codes] of Object.entries({ 1: [PLACES, 101, 110, 116, 119, 2
 const HEADS = new Int32Array(256).fill(3);
 for (let code = 0; code < CLOCK; code += 1) HEADS[code] = code < 32 ? 2 : code < 56 ? 1 : code < 64 ? 4 : 3;
 HEADS[CLOCK] = 1; HEADS[POKE] = 4;
+const ARGUMENTS = Uint8Array.from({ length: 64 }, (_, call) => WRITTEN[call] ?? CALLS[call]?.[1].length ?? 0);
 function partLength(row, i) {
   const part = row[i];
   if (part >= ONCE) return part >= OFTEN ? 1 : 0;
-  return part === 200 ? 2 + (WRITTEN[row[i + 1]] ?? CALLS[row[i + 1]]?.[1].length ?? 0) : LENGTHS[part];
+  return part === 200 ? 2 + (ARGUMENTS[row[i + 1]] ?? 0) : LENGTHS[part];
 }
 // Calls `see` for each part of a row: its code, and where its numbers begin.
-function eachPart(row, see) {
-  for (let i = HEADS[row[0]]; i < row.length; i += 1 + partLength(row, i)) see(row[i], i + 1);
+function eachPart(row, see, size = row.length) {
+  for (let i = HEADS[row[0]]; i < size; i += 1 + partLength(row, i)) see(row[i], i + 1);
 }
 // A mark of a line: how far it came, its processor, its number, how often.
 function lineOf(part, row, i) {
@@ -64,6 +65,64 @@ function lineOf(part, row, i) {
 const hexadecimal = (n) => n.toString(16).padStart(8, '0');
 
 // ---- 2 reading a run
+/* The rows of a run, as JSON with a row on each line. A million arrays are slow to make and to keep, so all rows are read once, one behind the
+   other, into one array. A row that is asked for later is parsed from its piece of the text. */
+class Rows {
+  constructor(text) {
+    this.text = text;
+    this.bytes = new Uint8Array(1 << 16); // some whole lines of the text, from `base` on: a character is a byte
+    this.base = 0; this.end = 0; this.place = 0;
+    this.length = 0; this.starts = []; this.codes = []; // how many are read, and of each where it begins and its first number
+    this.row = []; this.size = 0; // what is read last: so many numbers, and behind them what is left of longer rows
+  }
+  // Takes the lines behind those that are read: as many as there is room for, or one.
+  fill() {
+    const { text } = this, begin = this.base + this.end, whole = text.lastIndexOf('\n', begin + this.bytes.length - 1) + 1;
+    const stop = begin + this.bytes.length >= text.length ? text.length : whole > begin ? whole : text.indexOf('\n', begin) + 1 || text.length;
+    if (stop - begin > this.bytes.length) this.bytes = new Uint8Array(stop - begin);
+    this.end = new TextEncoder().encodeInto(text.slice(begin, stop), this.bytes).written;
+    this.base = begin; this.place = begin ? 0 : 1;
+  }
+  // Reads the next row; false where there is none.
+  next() {
+    // behind a row are a comma and the end of its line, or a bracket
+    if (this.place >= this.end - 2) this.fill();
+    const { bytes, row, end } = this;
+    let at = this.place, size = 0, number = 0;
+    while (at < end && bytes[at] < 48) at += 1;
+    if (at >= end || bytes[at] !== 91) return false;
+    this.starts.push(this.base + at);
+    for (at += 1; ; at += 1) {
+      const byte = bytes[at];
+      if (byte >= 48 && byte < 58) { number = number * 10 + byte - 48; continue; }
+      row[size] = number; size += 1; number = 0;
+      if (byte !== 44) break;
+    }
+    this.codes.push(row[0]);
+    this.length += 1; this.size = size; this.place = at + 1;
+    return true;
+  }
+  // A row that was read.
+  get(k) {
+    if (this.asked !== k) this.parsed = JSON.parse(this.text.slice(this.starts[k], this.text.indexOf(']', this.starts[k]) + 1));
+    this.asked = k;
+    return this.parsed;
+  }
+}
+// Bars and marks by rising events, and what of them is not over. All lanes have the same fields, so that the browser's compiler knows them.
+class Lane {
+  constructor(run, key, order, name, kind, { cpu, stage, task, line, wait, number }) {
+    this.key = key; this.order = order; this.name = name; this.kind = kind; this.run = run;
+    this.bars = { from: [], to: [], what: [], note: [] };
+    this.marks = { at: [], what: [] };
+    this.alarms = []; // the events of marks that are alarms
+    this.what = null; this.note = undefined; this.since = 0; // the bar that has no end yet
+    this.cpu = cpu; this.stage = stage; this.task = task; this.line = line; this.wait = wait; this.number = number;
+    this.stalls = kind === 'stage' ? { from: [], to: [] } : null; this.stalled = null;
+    this.wire = false; this.log = false; this.merged = []; // of a line: where it is, and the raises that merge on the wire
+    this.last = null; // the bar behind the last event
+  }
+}
 class Run {
   constructor(about, rows, number) {
     this.about = about;
@@ -72,92 +131,86 @@ class Run {
     this.symbols = about.symbols.map(([name, high, low, size, kind]) => ({ name, value: high * 4294967296 + low, size, kind }));
     this.source = about.lines; // [address, file, line, function] by rising addresses behind RAM's begin
     this.names = new Map(about.names.map(([kind, number, name]) => [kind * 256 + number, name]));
-    [this.profile, this.watchdog, this.cpus, this.ram, this.capacity] = rows[0];
     this.count = 0; // events
-    this.first = new Float64Array(rows.length + 1); // of each entry, its first event
-    this.steps = new Float64Array(rows.length + 1); // and how many Steps stand before it
-    this.lines = new Float64Array(rows.length + 1); // and the line of a script that makes it, and that line's first event
-    this.begins = new Float64Array(rows.length + 1);
+    this.first = [0]; // of each entry, its first event
+    this.warned = []; // the events that have an alarm, of which `warningsOf` may say more
     this.ticks = []; // the events that are ticks
     this.lanes = [];
     this.byKey = new Map();
     this.tasks = [];
-    this.marks = new Map(); // of each key the events that have such a mark, in their order
+    this.marks = {}; // of each kind and number the events that have such a mark, in their order
     this.pokes = new Map(); // of each entry that is a poke, its bytes
     this.text = [];
-    this.warned = new Set(); // the events that have a mark of which `warningsOf` says more
     this.read();
   }
   // The lane of a key, which is made where it is named first.
-  lane(key, order, name, kind, extra) {
+  lane(key, order, name, kind, extra = {}) {
     let lane = this.byKey.get(key);
     if (!lane) {
-      lane = { key, order, name, kind, run: this, bars: { from: [], to: [], what: [], note: [] }, marks: { at: [], what: [] }, open: null, ...extra };
+      lane = new Lane(this, key, order, name, kind, extra);
       this.byKey.set(key, lane);
       this.lanes.push(lane);
     }
     return lane;
   }
-  noted(key, event) {
-    const list = this.marks.get(key);
-    if (!list) this.marks.set(key, [event]);
-    else if (list[list.length - 1] !== event) list.push(event);
+  noted(kind, number, event) {
+    const lists = (this.marks[kind] ??= []), list = (lists[number] ??= []);
+    if (list[list.length - 1] !== event) list.push(event);
   }
   read() {
+    this.rows.next();
+    const start = this.rows.get(0);
+    [this.profile, this.watchdog, this.cpus, this.ram, this.capacity] = start;
     this.stages = [];
     this.lineLanes = [];
     for (let cpu = 0; cpu < this.cpus; cpu += 1) {
-      for (const stage of [0, 1]) this.stages.push(this.lane(`cpu${cpu}.${stage}`, cpu * 100 + stage, `cpu ${cpu} ${STAGES[stage]}`, 'stage', { cpu, stage, stalls: { from: [], to: [] }, stalled: null }));
+      for (const stage of [0, 1]) this.stages.push(this.lane(`cpu${cpu}.${stage}`, cpu * 100 + stage, `cpu ${cpu} ${STAGES[stage]}`, 'stage', { cpu, stage }));
     }
     this.state = { running: [], waits: new Map(), due: new Map() };
-    const start = this.rows[0];
     let i = 5;
     while (i < start.length) {
       if (start[i] === 204) this.newTask(start, i + 1, 0);
       if (start[i] === 100) this.runs(start[i + 1], start[i + 2], start[i + 3], 0);
       i += 1 + partLength(start, i);
     }
-    let event = 0, steps = 0, line = -1, begins = 0, stepping = -1;
-    for (let k = 1; k < this.rows.length; k += 1) {
-      const row = this.rows[k];
-      if (row[0] === POKE) this.pokes.set(k, this.about.pokes[this.pokes.size]);
-      this.first[k] = event;
-      this.steps[k] = steps;
-      const quiet = row[0] < 8;
-      const count = quiet && row[2] === PLACES ? row[3] : 1;
-      const cpu = row[0] < 16 ? row[0] & 7 : -1;
-      if (cpu < 0 || cpu !== stepping) { line += 1; begins = event; stepping = cpu; }
-      this.lines[k] = line;
-      this.begins[k] = begins;
-      if (!quiet || row.length > 4) this.readEntry(row, event);
-      if (row[0] < 16 || (row[0] >= 48 && row[0] < 56)) steps += count;
+    const { rows } = this, { row } = rows;
+    let event = 0;
+    for (let k = 1; rows.next(); k += 1) {
+      const code = row[0], { size } = rows, quiet = code < 8, count = quiet && size > 3 && row[2] === PLACES ? row[3] : 1;
+      if (code === POKE) this.pokes.set(k, this.about.pokes[this.pokes.size]);
+      this.first.push(event);
+      if (!quiet || size > 4) this.readEntry(row, size, event);
       event += count;
     }
-    this.first[0] = 0;
     this.count = event;
-    this.allSteps = steps;
-    this.first[this.rows.length] = event;
-    this.steps[this.rows.length] = steps;
+    this.first.push(event);
     this.end();
   }
+  // Of each entry how many Steps stand before it, and of all of them at the end.
+  get steps() {
+    if (this.summed) return this.summed;
+    const { codes, length } = this.rows, { first } = this, isStep = (code) => code < 16 || (code >= 48 && code < 56);
+    this.summed = new Float64Array(length + 1);
+    for (let k = 1; k < length; k += 1) this.summed[k + 1] = this.summed[k] + (isStep(codes[k]) ? first[k + 1] - first[k] : 0);
+    return this.summed;
+  }
+  get allSteps() { return this.steps[this.rows.length]; }
   stageLane(cpu, stage) { return this.stages[cpu * 2 + stage]; }
   newTask(row, i, event) {
     const [task, cpu, stage, rank, kind, priority, place] = row.slice(i, i + 7);
     this.tasks[task] = { number: task, cpu, stage, rank, kind, priority, place, created: event };
-    this.bar(this.taskLane(task), event, stage === 0 ? 'ready-0' : 'ready-1');
+    this.bar(this.taskLane(task), event, READY[stage]);
   }
   // The bar that is open on a lane ends, and another begins, or none.
   bar(lane, event, what, note) {
-    const open = lane.open;
-    if (open && open.what === what && open.note === note) return;
-    if (open && event > open.from) {
-      lane.bars.from.push(open.from); lane.bars.to.push(event); lane.bars.what.push(open.what); lane.bars.note.push(open.note);
-    }
-    lane.open = what === null ? null : { from: event, what, note };
+    if (lane.what === what && lane.note === note) return;
+    const { bars } = lane;
+    if (lane.what !== null && event > lane.since) { bars.from.push(lane.since); bars.to.push(event); bars.what.push(lane.what); bars.note.push(lane.note); }
+    lane.what = what; lane.note = note; lane.since = event;
   }
   mark(lane, event, what) {
     lane.marks.at.push(event); lane.marks.what.push(what);
-    if (WARNED.has(what)) this.warned.add(event);
+    if (ALARMS.has(what)) { lane.alarms.push(event); if (this.warned[this.warned.length - 1] !== event) this.warned.push(event); }
   }
   taskLane(task) { return this.byKey.get(`task${task}`) ?? this.lane(`task${task}`, 2000 + task, this.laneName('task', 0, task), 'task', { task }); }
   // A word and a number, and behind them the name that the program gives.
@@ -170,14 +223,14 @@ class Run {
     const before = this.state.running[cpu];
     if (before && before.task !== task) {
       const lane = this.taskLane(before.task);
-      if (lane.open && lane.open.what === 'running') this.bar(lane, event, `ready-${this.tasks[before.task]?.stage ?? before.stage}`);
+      if (lane.what === 'running') this.bar(lane, event, READY[this.tasks[before.task]?.stage ?? before.stage]);
     }
     for (const s of [0, 1]) this.bar(this.stageLane(cpu, s), event, task !== null && s === stage ? 'runs' : null, task);
     this.state.running[cpu] = task === null ? null : { task, stage };
     if (task !== null) {
       if (this.tasks[task]) this.tasks[task].stage = stage;
       this.bar(this.taskLane(task), event, 'running', cpu * 2 + stage);
-      this.noted(`runs${task}`, event);
+      this.noted('runs', task, event);
     }
   }
   objectLane(kind, number) {
@@ -186,30 +239,29 @@ class Run {
     return this.lane(`${word}${number}`, 3000 + group * 100 + number, this.laneName(word, group, number), 'object', { wait: group, number });
   }
   // The marks of an event: what they change is told to the lanes, from the event behind it on.
-  readEntry(row, event) {
+  readEntry(row, size, event) {
     const after = event + 1;
-    const woken = [];
-    let called = null, runs = 0;
-    this.row = row;
-    for (let at = HEADS[row[0]]; at < row.length; at += 1 + partLength(row, at)) {
+    let called = 0, runs = 0;
+    this.row = row; this.size = size;
+    for (let at = HEADS[row[0]]; at < size; at += 1 + partLength(row, at)) {
       const part = row[at], i = at + 1;
       if (part >= ONCE) { this.readLine(part, row, i, event); continue; }
       switch (part) {
         case 100: case 101: runs += 1; break;
         case 111: this.waits(row[i], row[i + 1], row[i + 2], event); break;
-        case 112: woken.push([row[i + 1], row[i + 2]]); this.wakes(row[i], row[i + 1], row[i + 2], event); break;
-        case 113: this.mark(this.taskLane(row[i]), event, 'deadline'); this.noted('deadline', event); break;
-        case 114: if (this.tasks[row[i]]) this.tasks[row[i]].stage = row[i + 1]; this.ready(row[i], after); this.noted(`moves${row[i]}`, event); break;
+        case 112: this.wakes(row[i], row[i + 1], row[i + 2], event); break;
+        case 113: this.mark(this.taskLane(row[i]), event, 'deadline'); break;
+        case 114: if (this.tasks[row[i]]) this.tasks[row[i]].stage = row[i + 1]; this.ready(row[i], after); break;
         case 115: this.mark(this.taskLane(row[i]), event, row[i + 1] < row[i + 2] ? 'rises' : 'falls'); break;
         case 116: this.bar(this.taskLane(row[i]), after, null); this.mark(this.taskLane(row[i]), event, 'ended'); break;
         case 117: this.bar(this.taskLane(row[i]), after, null); this.mark(this.taskLane(row[i]), event, 'faulted'); break;
         case 118: this.owns(row[i], row[i + 1], row[i + 2], event); break;
         case 119: this.ticks.push(event); this.mark(this.lane('clock', 5000, 'clock', 'clock'), event, 'tick'); break;
-        case 121: this.mark(this.taskLane(row[i]), event, 'migrates'); if (this.tasks[row[i]]) this.tasks[row[i]].cpu = row[i + 1]; this.noted(`migrates${row[i]}`, event); break;
+        case 121: this.mark(this.taskLane(row[i]), event, 'migrates'); if (this.tasks[row[i]]) this.tasks[row[i]].cpu = row[i + 1]; break;
         case 120: this.mark(this.taskLane(row[i + 1]), event, 'notice'); break;
-        case 102: this.mark(this.lane('debugger', 5001, 'debugger', 'clock'), event, row[i + 1] ? 'stopped' : 'goes'); this.noted(`stop${row[i]}`, event); break;
+        case 102: this.mark(this.lane('debugger', 5001, 'debugger', 'clock'), event, row[i + 1] ? 'stopped' : 'goes'); break;
         case 103: this.stalls(row[i], row[i + 1], row[i + 2], after); break;
-        case 200: called = { number: row[i], outcome: row[i + 1], object: row[i + 2] }; break;
+        case 200: called = i; break;
         case 202: if (row[i] === 0) this.write(row[i + 2] & 255, event); this.mark(this.deviceLane(row[i]), event, 'put'); break;
         case 203: this.mark(this.deviceLane(row[i]), event, 'fetch'); break;
         case 204: this.newTask(row, i, after); this.mark(this.taskLane(row[i]), event, 'created'); break;
@@ -217,24 +269,24 @@ class Run {
       }
     }
     // who runs is said behind what became of tasks
-    if (runs) eachPart(row, (part, i) => {
-      if (part === 100) this.runs(row[i], row[i + 1], row[i + 2], after);
-      if (part === 101) this.runs(row[i], null, null, after);
-    });
-    if (called) this.called(called, woken, event);
+    for (let at = HEADS[row[0]]; runs && at < size; at += 1 + partLength(row, at)) {
+      if (row[at] === 100) this.runs(row[at + 1], row[at + 2], row[at + 3], after);
+      if (row[at] === 101) this.runs(row[at + 1], null, null, after);
+    }
+    if (called) this.called(row[called], row[called + 1], row[called + 2], event);
     if (row[0] >= 73 || (row[0] >= 56 && row[0] < 72)) this.mark(this.lane('debugger', 5001, 'debugger', 'clock'), event, 'changes');
   }
   ready(task, event) {
     const lane = this.taskLane(task);
-    if (lane.open && lane.open.what === 'running') this.bar(lane, event, 'running', (lane.open.note & ~1) | (this.tasks[task]?.stage ?? 1));
-    else this.bar(lane, event, `ready-${this.tasks[task]?.stage ?? 1}`);
+    if (lane.what === 'running') this.bar(lane, event, 'running', (lane.note & ~1) | (this.tasks[task]?.stage ?? 1));
+    else this.bar(lane, event, READY[this.tasks[task]?.stage ?? 1]);
   }
   waits(task, kind, number, event) {
     this.bar(this.taskLane(task), event + 1, 'waits', (this.tasks[task]?.stage ?? 1) * 65536 + kind * 256 + number);
-    this.noted(`waits${task}`, event);
+    this.noted('waits', task, event);
     if (kind === SLEEP) return;
     const key = (kind === RETAKE ? LOCK : kind) * 256 + number;
-    this.noted(`waits-for${key}`, event);
+    this.noted('waits-for', key, event);
     const lane = this.objectLane(kind, number);
     this.waiter(lane, key, task, event + 1, true);
   }
@@ -247,35 +299,28 @@ class Run {
     this.bar(target, event, list.length ? 'waiting' : null, list.length ? list.join(' ') : undefined);
   }
   wakes(task, kind, number, event) {
-    this.noted(`woken${task}`, event);
+    this.noted('woken', task, event);
     this.mark(this.taskLane(task), event, 'woken');
     this.ready(task, event + 1);
     if (kind === SLEEP) return;
     const key = (kind === RETAKE ? LOCK : kind) * 256 + number;
-    this.noted(`wakes-for${key}`, event);
     this.waiter(this.objectLane(kind, number), key, task, event + 1, false);
   }
   owns(mutex, from, to, event) {
     const lane = this.objectLane(LOCK, mutex);
     this.bar(lane, event + 1, to ? 'owned' : null, to ? to - 1 : undefined);
-    this.noted(`owner${mutex}`, event);
-    if (to) this.noted(`owner${mutex}.${to - 1}`, event);
+    this.noted('owner', mutex, event);
   }
   stalls(cpu, stage, on, event) {
     const lane = this.stageLane(cpu, stage);
     if (on) lane.stalled = event;
     else if (lane.stalled !== null) { lane.stalls.from.push(lane.stalled); lane.stalls.to.push(event); lane.stalled = null; }
   }
-  // Of a line of a processor its lane, and the events at which it came so far.
-  lineLane(cpu, line) {
-    const at = cpu * 64 + line;
-    return (this.lineLanes[at] ??= this.lane(`line${cpu}.${line}`, cpu * 100 + 10 + line, `cpu ${cpu} line ${line}`, 'line', { cpu, line, raised: [], received: [], played: [], merged: [], merges: [], wire: false, log: false }));
-  }
+  lineLane(cpu, line) { return (this.lineLanes[cpu * 64 + line] ??= this.lane(`line${cpu}.${line}`, cpu * 100 + 10 + line, `cpu ${cpu} line ${line}`, 'line', { cpu, line })); }
   readLine(part, row, i, event) {
     const { passage, cpu, line, once } = lineOf(part, row, i), lane = this.lineLane(cpu, line);
     if (passage === 0) {
       const merged = lane.wire;
-      lane.raised.push(event);
       this.mark(lane, event, merged || !once ? 'merged' : 'raised');
       if (merged) lane.merged.push(event);
       else this.bar(lane, event, 'wire');
@@ -283,45 +328,36 @@ class Run {
     } else if (passage === 1) {
       // one that is in the log already merges there
       const merged = lane.log;
-      lane.received.push(event);
-      lane.wire = false;
-      lane.log = true;
+      lane.wire = false; lane.log = true;
       this.mark(lane, event, merged ? 'merges' : 'received');
-      if (merged) lane.merges.push(event);
       this.bar(lane, event, 'log');
     } else {
       const lost = passage === 3 && !this.wakesLine(line);
       lane.log = false;
-      lane.played.push(event);
       this.mark(lane, event, lost ? 'lost' : 'played');
       this.bar(lane, event, lane.wire ? 'wire' : null);
       this.mark(this.stages[cpu * 2 + passage - 2], event, lost ? 'lost' : 'played');
     }
   }
   // Whether the entry that is read wakes a task that waited for a line; lines 0 and 1 are the kernels' own.
-  wakesLine(line) {
-    if (line < 2) return true;
-    let found = false;
-    eachPart(this.row, (part, i) => { if (part === 112 && this.row[i + 1] === LINE && this.row[i + 2] === line) found = true; });
-    return found;
+  wakesLine(line) { return line < 2 || this.hasWait(112, LINE, line); }
+  // Whether the entry that is read begins (111) or ends (112) a wait of a kind, for one object or for any.
+  hasWait(code, kind, number) {
+    const { row, size } = this;
+    for (let i = HEADS[row[0]]; i < size; i += 1 + partLength(row, i)) if (row[i] === code && row[i + 2] === kind && (number === undefined || row[i + 3] === number)) return true;
+    return false;
   }
   // A put, post or signal: hollow where it woke nobody.
-  called({ number, outcome, object }, woken, event) {
+  called(number, outcome, object, event) {
     const wait = CALLS[number]?.[2];
     if (number === 1 && outcome >= 2) this.write(object & 255, event);
-    if ((number === 39 || number === 40) && outcome === 2) this.noted(`takes${SEMAPHORE * 256 + object}`, event);
+    if ((number === 39 || number === 40) && outcome === 2) this.noted('takes', SEMAPHORE * 256 + object, event);
     if (!wait || outcome < 2 || (outcome - 2) % 2) return;
     const key = wait * 256 + object;
-    const hollow = !woken.some(([kind, n]) => (kind === wait && n === object)) && !this.movedOn(wait);
+    // a task that waited for an event may wait for its mutex now
+    const hollow = !this.hasWait(112, wait, object) && !(wait === EVENT && this.hasWait(111, RETAKE));
     this.mark(this.objectLane(wait, object), event, hollow ? 'hollow' : 'puts');
-    this.noted(`${hollow ? 'hollow' : 'puts'}${key}`, event);
-    this.noted(`signals${key}`, event);
-  }
-  // Whether a task that waited for an event waits for its mutex now.
-  movedOn(wait) {
-    let found = false;
-    if (wait === EVENT) eachPart(this.row, (part, i) => { if (part === 111 && this.row[i + 1] === RETAKE) found = true; });
-    return found;
+    this.noted(hollow ? 'hollow' : 'puts', key, event);
   }
   deviceLane(number) { return this.lane(`device${number}`, 4000 + number, DEVICES[number] ?? `device ${number}`, 'clock', {}); }
   write(byte, event) {
@@ -336,35 +372,25 @@ class Run {
     const lane = this.objectLane(TIMER, number);
     // an expiry adds one, or gives it to a waiter at once; what a call sets is no expiry
     let isSet = false;
-    eachPart(row, (part, j) => { if (part === 200 && (row[j] === 48 || row[j] === 13) && (row[j] === 13 || row[j + 2] === number)) isSet = true; });
+    eachPart(row, (part, j) => { if (part === 200 && (row[j] === 48 || row[j] === 13) && (row[j] === 13 || row[j + 2] === number)) isSet = true; }, this.size);
     const overrun = !isSet && expiries > before.expiries && before.expiries > 0;
     const expired = !isSet && (expiries > before.expiries || due !== before.due);
     this.mark(lane, event, overrun ? 'overrun' : expired ? 'expired' : isSet ? 'set' : 'taken');
-    this.noted(`timer${number}.${expired || overrun ? 'expired' : isSet ? 'set' : 'taken'}`, event);
+    this.noted(expired || overrun ? 'expired' : isSet ? 'set' : 'taken', number, event);
   }
   end() {
     for (const lane of this.lanes) {
-      lane.last = lane.open;
-      // how many alarms stand before each mark
-      lane.alarms = new Int32Array(lane.marks.what.length + 1);
-      for (let i = 0; i < lane.marks.what.length; i += 1) lane.alarms[i + 1] = lane.alarms[i] + (ALARMS.has(lane.marks.what[i]) ? 1 : 0);
+      lane.last = lane.what === null ? null : { from: lane.since, what: lane.what, note: lane.note };
       this.bar(lane, this.count + 1, null);
-      if (lane.stalled !== null && lane.stalled !== undefined) { lane.stalls.from.push(lane.stalled); lane.stalls.to.push(this.count + 1); }
+      if (lane.stalled !== null) { lane.stalls.from.push(lane.stalled); lane.stalls.to.push(this.count + 1); }
     }
     this.lanes.sort((one, two) => one.order - two.order);
   }
   // The entry that has an event.
-  at(event) {
-    let low = 1, high = this.rows.length - 1;
-    while (low < high) {
-      const middle = (low + high + 1) >> 1;
-      if (this.first[middle] <= event) low = middle; else high = middle - 1;
-    }
-    return low;
-  }
+  at(event) { return Math.max(1, lastUpTo(this.first, event, this.rows.length - 1)); }
   // The task that the processor of an event runs before it; null where it runs none, or the event is of no processor.
   callerAt(event) {
-    const code = this.rows[this.at(event)][0];
+    const code = this.rows.codes[this.at(event)];
     if (code >= 16 && (code < 48 || code >= 56)) return null;
     for (const { bars } of [0, 1].map((stage) => this.stageLane(code & 7, stage))) {
       const i = below(bars.to, event + 0.5);
@@ -406,8 +432,25 @@ function below(list, value) { // how many are less than it
   while (low < high) { const middle = (low + high) >> 1; if (list[middle] < value) low = middle + 1; else high = middle; }
   return low;
 }
+// As `below`, where the answer is known not to be before a place: it is looked for near to it first.
+function seek(list, value, low) {
+  let high = low;
+  for (let step = 1; high < list.length && list[high] < value; step *= 2) { low = high + 1; high += step; }
+  high = Math.min(high, list.length);
+  while (low < high) { const middle = (low + high) >> 1; if (list[middle] < value) low = middle + 1; else high = middle; }
+  return low;
+}
 const before = (list, value) => { const at = below(list ?? [], value); return at ? list[at - 1] : null; };
 const from = (list, value) => { const at = below(list ?? [], value); return at < (list ?? []).length ? list[at] : null; };
+function lastUpTo(list, value, high) { // the last place up to `high` of what is not more than it
+  let low = 0;
+  while (low < high) { const middle = (low + high + 1) >> 1; if (list[middle] <= value) low = middle; else high = middle - 1; }
+  return low;
+}
+// The same for the marks of a lane, of these kinds alone.
+function markBefore({ marks: { at, what } }, event, kinds) { let i = below(at, event) - 1; while (i >= 0 && !kinds.includes(what[i])) i -= 1; return i < 0 ? null : at[i]; }
+function markFrom({ marks: { at, what } }, event, kinds) { let i = below(at, event); while (i < at.length && !kinds.includes(what[i])) i += 1; return i < at.length ? at[i] : null; }
+const RAISED = ['raised', 'merged'], RECEIVED = ['received', 'merges'], PLAYED = ['played', 'lost'];
 
 // ---- 4 axes: where an event is, in events, Steps or ticks, and the other way round
 class Axis {
@@ -433,8 +476,7 @@ class Axis {
     if (this.kind === 'events') return position;
     if (position <= 0) return 0;
     if (this.kind === 'steps') {
-      let low = 1, high = run.rows.length - 1;
-      while (low < high) { const middle = (low + high + 1) >> 1; if (run.steps[middle] <= position) low = middle; else high = middle - 1; }
+      const low = Math.max(1, lastUpTo(run.steps, position, run.rows.length - 1));
       return run.first[low] + Math.min(position - run.steps[low], run.first[low + 1] - run.first[low]);
     }
     const tick = Math.floor(position), start = tick ? run.ticks[tick - 1] : 0, stop = tick < run.ticks.length ? run.ticks[tick] : run.count;
@@ -598,16 +640,18 @@ class Chart {
       return;
     }
     // more bars than pixels: of each pixel the longest of the first that stand there
-    let at = one, begun = 0, shown = null;
-    const flush = (p) => { if (shown) { const look = barLook(lane, shown.what, shown.note, colours); this.box(pen, look, GUTTER + begun, p - begun, y, true); } };
+    const { from: begins, to: ends, what, note } = bars;
+    let at = one, begun = 0, shown = -1;
+    const flush = (p) => { if (shown >= 0) this.box(pen, barLook(lane, what[shown], note[shown], colours), GUTTER + begun, p - begun, y, true); };
     for (let p = 0; p + 1 < columns.length; p += 1) {
-      at = below(bars.to, columns[p] + 1e-9);
-      let best = null, long = 0;
-      for (let i = at; i < bars.from.length && i < at + 12 && bars.from[i] < columns[p + 1]; i += 1) {
-        const length = Math.min(bars.to[i], columns[p + 1]) - Math.max(bars.from[i], columns[p]);
-        if (length > long) { long = length; best = { what: bars.what[i], note: bars.note[i] }; }
+      const left = columns[p], right = columns[p + 1];
+      at = seek(ends, left + 1e-9, at);
+      let best = -1, long = 0;
+      for (let i = at, most = Math.min(at + 12, begins.length); i < most && begins[i] < right; i += 1) {
+        const length = Math.min(ends[i], right) - Math.max(begins[i], left);
+        if (length > long) { long = length; best = i; }
       }
-      if (!shown || !best || shown.what !== best.what || shown.note !== best.note) { flush(p); shown = best; begun = p; }
+      if (shown < 0 || best < 0 || what[shown] !== what[best] || note[shown] !== note[best]) { flush(p); shown = best; begun = p; }
     }
     flush(columns.length - 1);
   }
@@ -638,8 +682,8 @@ class Chart {
   // Of each second pixel whether the stage is stalled there.
   drawManyStalls(pen, lane, y, columns, colours) {
     const { from: begins, to: ends } = lane.stalls;
-    for (let p = 0; p + 1 < columns.length; p += 2) {
-      const i = below(ends, columns[p] + 1e-9);
+    for (let p = 0, i = 0; p + 1 < columns.length; p += 2) {
+      i = seek(ends, columns[p] + 1e-9, i);
       if (i < begins.length && begins[i] <= columns[p]) pen.rectangle(GUTTER + p, y + 1, 1, LANE - 2, colours.stall);
     }
     pen.line(GUTTER, y + LANE - 2, GUTTER + columns.length, y + LANE - 2, colours.ink, 1, [2, 2]);
@@ -655,10 +699,11 @@ class Chart {
       return;
     }
     // more signs than there is room: how many, as a height; orange where one of them is an alarm
-    for (let p = 0, i = one; p < last; p += 2) {
-      const end = below(at, columns[Math.min(last, p + 2)]);
+    for (let p = 0, i = one, near = 0; p < last; p += 2) {
+      const right = columns[Math.min(last, p + 2)], end = seek(at, right, i);
       if (end > i) {
-        const alarm = lane.alarms[end] > lane.alarms[i];
+        near = seek(lane.alarms, at[i], near);
+        const alarm = lane.alarms[near] < right;
         const h = Math.min(LANE - 6, 3 + 3 * Math.log2(end - i + 1));
         pen.rectangle(GUTTER + p, y + LANE - 3 - h, 2, h, alarm ? colours.alarm : colours.dim);
       }
@@ -704,14 +749,13 @@ class Chart {
     pen.line(u, RULER, u, height, colours.mark, 0.7, [1, 4]);
   }
 }
-const WARNED = new Set(['hollow', 'merged', 'merges', 'lost', 'overrun']);
 const ALARMS = new Set(['merged', 'merges', 'lost', 'hollow', 'faulted', 'deadline', 'notice', 'overrun', 'stopped']);
 
 // ---- 6 words of an event
 const times = (n) => (n > 1 ? `, ${n} times` : '');
 const counted = (n, one, more) => `${n} ${n === 1 ? one : more}`;
 function eventWords(run, k) {
-  const row = run.rows[k], code = row[0], cpu = code & 7;
+  const row = run.rows.get(k), code = row[0], cpu = code & 7;
   const place = code < 16 ? placeWords(run, row[1]) : '';
   if (code < 8) { const n = run.first[k + 1] - run.first[k]; return `${n} Step${n > 1 ? 's' : ''} of processor ${cpu} that change only registers and RAM${place && `, from ${place}`}`; }
   if (code < 16) return `step ${cpu}${place && ` at ${place}`}`;
@@ -721,7 +765,7 @@ function eventWords(run, k) {
 const longAt = (row, i) => (row[i] ? row[i].toString(16) + row[i + 1].toString(16).padStart(8, '0') : row[i + 1].toString(16));
 // The line of a script that makes an event which is no Step.
 function eventLine(run, k) {
-  const row = run.rows[k], code = row[0], cpu = code & 7;
+  const row = run.rows.get(k), code = row[0], cpu = code & 7;
   if (code < 32) return `${EVENTS[code >> 3]} ${cpu} ${row[1]}`;
   if (code < 56) return `${EVENTS[code >> 3]} ${cpu}`;
   if (code < 64) return `set ${cpu} ${row[3]} ${longAt(row, 1)}`;
@@ -788,7 +832,7 @@ function callWords(run, row, i) {
   return row[i + 1] === 0 ? `${name} waits` : row[i + 1] === 1 ? `${name}: the task changes its stage first` : `${name} answers ${answerWords(row[i + 1])}`;
 }
 function allWords(run, k) {
-  const row = run.rows[k], words = [];
+  const row = run.rows.get(k), words = [];
   eachPart(row, (part, i) => {
     const text = part === PLACES ? '' : partWords(run, part, row, i), caller = part === 200 ? run.callerAt(run.first[k]) : null;
     if (text) words.push(caller === null ? text : `${run.taskName(caller)}: ${text}`);
@@ -797,8 +841,10 @@ function allWords(run, k) {
 }
 // The line of the script that repeats the run up to an event and with it, and how many lines stand before it.
 function scriptLine(run, event) {
-  const k = run.at(event), code = run.rows[k][0];
-  return { before: run.lines[k], line: code < 16 ? `step ${code & 7} ${event - run.begins[k] + 1}` : eventLine(run, k) };
+  const k = run.at(event), { codes } = run.rows, cpuOf = (j) => (codes[j] < 16 ? codes[j] & 7 : -1);
+  let before = 0, begins = 1;
+  for (let j = 2; j <= k; j += 1) if (cpuOf(j) < 0 || cpuOf(j) !== cpuOf(j - 1)) { before += 1; begins = j; }
+  return { before, line: codes[k] < 16 ? `step ${cpuOf(k)} ${event - run.first[begins] + 1}` : eventLine(run, k) };
 }
 // Scripts boot the newest profile: of a run of another one it is the journal that repeats it.
 function script(run, event) {
@@ -807,7 +853,7 @@ function script(run, event) {
   let last = null, n = 0;
   const flush = () => { if (last !== null) lines.push(`step ${last} ${n}`); last = null; };
   for (let j = 1; j <= k; j += 1) {
-    const code = run.rows[j][0], count = j === k ? event - run.first[j] + 1 : run.first[j + 1] - run.first[j];
+    const code = run.rows.codes[j], count = j === k ? event - run.first[j] + 1 : run.first[j + 1] - run.first[j];
     if (code < 16) { if (last === (code & 7)) n += count; else { flush(); last = code & 7; n = count; } } else { flush(); lines.push(eventLine(run, j)); }
   }
   flush();
@@ -816,59 +862,59 @@ function script(run, event) {
 
 // ---- 7 causes and effects of an event: links to other events
 function linksOf(run, k) {
-  const row = run.rows[k], event = run.first[k], links = [];
+  const row = run.rows.get(k), event = run.first[k], links = [];
   const cause = (at, words) => { if (at !== null && at !== event) links.push({ event: at, words, cause: true }); };
   const effect = (at, words) => { if (at !== null && at !== event) links.push({ event: at, words, cause: false }); };
-  const get = (key) => run.marks.get(key);
+  const get = (kind, number) => run.marks[kind]?.[number];
   eachPart(row, (part, i) => {
     if (part >= ONCE) {
       const { passage, cpu, line } = lineOf(part, row, i), lane = run.lineLane(cpu, line);
       if (passage === 0) {
-        effect(from(lane.received, event + 1), `line ${line} is received by processor ${cpu}`);
-        if (from(lane.merged, event) === event) cause(before(lane.raised, event), `line ${line} was on the wire already: the raises merge`);
+        effect(markFrom(lane, event + 1, RECEIVED), `line ${line} is received by processor ${cpu}`);
+        if (from(lane.merged, event) === event) cause(markBefore(lane, event, RAISED), `line ${line} was on the wire already: the raises merge`);
       }
       if (passage === 1) {
-        cause(before(lane.raised, event + 1), `line ${line} is raised`);
-        if (from(lane.merges, event) === event) cause(before(lane.received, event), `line ${line} is in the log already`);
-        effect(from(lane.played, event + 1), `line ${line} is played`);
+        cause(markBefore(lane, event + 1, RAISED), `line ${line} is raised`);
+        if (markFrom(lane, event, ['merges']) === event) cause(markBefore(lane, event, RECEIVED), `line ${line} is in the log already`);
+        effect(markFrom(lane, event + 1, PLAYED), `line ${line} is played`);
       }
-      if (passage > 1) cause(before(lane.received, event + 1), `line ${line} is received`);
+      if (passage > 1) cause(markBefore(lane, event + 1, RECEIVED), `line ${line} is received`);
       return;
     }
     const task = row[i], name = run.taskName(task);
     if (part === 111) {
       const kind = row[i + 1], number = row[i + 2], key = (kind === RETAKE ? LOCK : kind) * 256 + number;
-      effect(from(get(`woken${task}`), event + 1), `the wait of ${name} ends`);
-      if (kind === LOCK || kind === RETAKE) cause(before(get(`owner${number}`), event), `${run.waitName(LOCK, number)} got its owner`);
-      const took = before(get(`takes${key}`), event);
+      effect(from(get('woken', task), event + 1), `the wait of ${name} ends`);
+      if (kind === LOCK || kind === RETAKE) cause(before(get('owner', number), event), `${run.waitName(LOCK, number)} got its owner`);
+      const took = before(get('takes', key), event);
       if (took !== null) cause(took, `the last that took ${run.waitName(kind, number)}, by ${run.taskName(run.callerAt(took))}`);
-      cause(before(get(`hollow${key}`), event), 'the last that woke nobody: it came before this wait');
+      cause(before(get('hollow', key), event), 'the last that woke nobody: it came before this wait');
     }
     if (part === 112) {
-      cause(before(get(`waits${task}`), event), `${name} begins to wait`);
-      effect(from(get(`runs${task}`), event), `${name} runs`);
+      cause(before(get('waits', task), event), `${name} begins to wait`);
+      effect(from(get('runs', task), event), `${name} runs`);
     }
     if (part === 100) {
-      const woken = before(get(`woken${row[i + 1]}`), event + 1);
+      const woken = before(get('woken', row[i + 1]), event + 1);
       cause(woken, `${run.taskName(row[i + 1])} was woken`);
     }
-    if (part === 118 && row[i + 2]) cause(before(get(`waits${row[i + 2] - 1}`), event), `${run.taskName(row[i + 2] - 1)} begins to wait`);
-    if (part === 118 && row[i + 2]) effect(from(get(`owner${task}`), event + 1), `${run.waitName(LOCK, task)} gets another owner, or none`);
+    if (part === 118 && row[i + 2]) cause(before(get('waits', row[i + 2] - 1), event), `${run.taskName(row[i + 2] - 1)} begins to wait`);
+    if (part === 118 && row[i + 2]) effect(from(get('owner', task), event + 1), `${run.waitName(LOCK, task)} gets another owner, or none`);
     if (part === 205) {
-      const is = (what) => from(get(`timer${task}.${what}`), event) === event, timer = run.waitName(TIMER, task);
-      if (is('set')) effect(from(get(`timer${task}.expired`), event + 1), `${timer} expires`);
+      const is = (what) => from(get(what, task), event) === event, timer = run.waitName(TIMER, task);
+      if (is('set')) effect(from(get('expired', task), event + 1), `${timer} expires`);
       if (is('expired')) {
-        cause(before(get(`timer${task}.expired`), event) ?? before(get(`timer${task}.set`), event), `${timer} was set, or expired last`);
-        effect(from(get(`timer${task}.taken`), event + 1), `what ${timer} has expired is asked for`);
+        cause(before(get('expired', task), event) ?? before(get('set', task), event), `${timer} was set, or expired last`);
+        effect(from(get('taken', task), event + 1), `what ${timer} has expired is asked for`);
       }
-      if (is('taken')) cause(before(get(`timer${task}.expired`), event), `${timer} expired`);
+      if (is('taken')) cause(before(get('expired', task), event), `${timer} expired`);
     }
-    if (part === 119) effect(from(run.lineLane(0, 0).received, event), 'the tick is received by processor 0');
+    if (part === 119) effect(markFrom(run.lineLane(0, 0), event, RECEIVED), 'the tick is received by processor 0');
     if (part === 200) {
       const wait = CALLS[row[i]]?.[2], key = wait * 256 + row[i + 2];
-      if (wait && from(get(`hollow${key}`), event) === event) {
-        effect(from(get(`waits-for${key}`), event), `the next that waits for ${run.waitName(wait, row[i + 2])}`);
-        effect(from(get(`puts${key}`), event + 1), 'the next that woke a task');
+      if (wait && from(get('hollow', key), event) === event) {
+        effect(from(get('waits-for', key), event), `the next that waits for ${run.waitName(wait, row[i + 2])}`);
+        effect(from(get('puts', key), event + 1), 'the next that woke a task');
       }
     }
   });
@@ -894,8 +940,8 @@ function warningsOf(run, k) {
 
 // ---- 8 search
 function matches(run, k, wanted) {
-  const words = run.rows[k][0] < 8 ? [eventWords(run, k)] : [eventWords(run, k), ...allWords(run, k)];
-  if (run.warned.has(run.first[k])) words.push(...warningsOf(run, k));
+  const words = run.rows.codes[k] < 8 ? [eventWords(run, k)] : [eventWords(run, k), ...allWords(run, k)];
+  if (from(run.warned, run.first[k]) === run.first[k]) words.push(...warningsOf(run, k));
   return words.join('\n').toLowerCase().includes(wanted);
 }
 
@@ -970,31 +1016,29 @@ class Page {
   drawMap() {
     const context = this.map.getContext('2d'), ratio = window.devicePixelRatio || 1, w = this.map.width / ratio, h = this.map.height / ratio;
     context.setTransform(ratio, 0, 0, ratio, 0, 0);
-    context.fillStyle = this.colours.paper; context.fillRect(0, 0, w, h);
-    const axis = this.chart.axes[0], run = this.runs[0];
-    if (this.paintMap) {
-      this.counts = new Float64Array(Math.ceil(w)); this.alarms = new Set();
-      const whole = { position: (event) => (axis.position(event) / this.chart.end) * w };
-      for (const lane of run.lanes) {
-        const at = lane.marks.at, step = Math.max(1, Math.floor(at.length / 20000));
-        for (let i = 0; i < at.length; i += step) {
-          const p = Math.min(this.counts.length - 1, Math.floor(whole.position(at[i])));
-          this.counts[p] += step;
-          if (ALARMS.has(lane.marks.what[i])) this.alarms.add(p);
-        }
-      }
-      this.paintMap = false;
-    }
-    const most = Math.max(1, ...this.counts);
-    this.counts.forEach((n, p) => {
-      if (!n) return;
-      const tall = 3 + (Math.log(n + 1) / Math.log(most + 1)) * (h - 8);
-      context.fillStyle = this.alarms.has(p) ? this.colours.alarm : this.colours.dim;
-      context.fillRect(p, h - tall, 1, tall);
-    });
+    if (this.paintMap) this.whole = this.wholeMap(w, h, ratio);
+    this.paintMap = false;
+    context.drawImage(this.whole, 0, 0, w, h);
     const left = (this.chart.from / this.chart.end) * w, right = (this.chart.to / this.chart.end) * w;
     context.strokeStyle = this.colours.mark; context.lineWidth = 2;
     context.strokeRect(left + 1, 1, Math.max(3, right - left - 2), h - 2);
+  }
+  // The map without the window, as a picture.
+  wholeMap(w, h, ratio) {
+    const picture = this.map.cloneNode(), context = picture.getContext('2d'), axis = this.chart.axes[0], counts = new Float64Array(Math.ceil(w)), alarms = counts.slice();
+    context.setTransform(ratio, 0, 0, ratio, 0, 0);
+    context.fillStyle = this.colours.paper; context.fillRect(0, 0, w, h);
+    const ends = counts.map((_, p) => (p + 1 < counts.length ? axis.event(((p + 1) / w) * this.chart.end) : Infinity));
+    const count = (list, sums) => ends.reduce((i, end, p) => { const next = seek(list, end, i); sums[p] += next - i; return next; }, 0);
+    for (const lane of this.runs[0].lanes) { count(lane.marks.at, counts); count(lane.alarms, alarms); }
+    const most = Math.max(1, ...counts);
+    counts.forEach((n, p) => {
+      if (!n) return;
+      const tall = 3 + (Math.log(n + 1) / Math.log(most + 1)) * (h - 8);
+      context.fillStyle = alarms[p] ? this.colours.alarm : this.colours.dim;
+      context.fillRect(p, h - tall, 1, tall);
+    });
+    return picture;
   }
   // The window of the axis that is shown.
   window(first, last) {
@@ -1124,9 +1168,7 @@ class Page {
     look();
   }
   // The window as SVG: all lanes, as wide as the chart.
-  svg() {
-    return this.drawn(this.colours);
-  }
+  svg() { return this.drawn(this.colours); }
   drawn(colours) {
     const pen = new SvgPen(), width = Math.max(this.width, 900), height = RULER + this.chart.lanes.length * LANE + 14;
     this.chart.draw(pen, width, height, 0, this.chosen, colours);
@@ -1187,7 +1229,7 @@ class Page {
     $('save').onclick = () => this.save();
     $('help').onclick = () => this.help();
     window.addEventListener('resize', () => this.resize());
-    window.matchMedia('(prefers-color-scheme: dark)').addEventListener('change', () => { this.cached = null; this.showSigns(); this.paint(); });
+    window.matchMedia('(prefers-color-scheme: dark)').addEventListener('change', () => { this.cached = null; this.paintMap = true; this.showSigns(); this.paint(); });
     window.addEventListener('beforeprint', () => { $('print').innerHTML = this.drawn(Object.fromEntries(COLOURS.map((name) => [name, `var(--${name})`]))); });
     window.addEventListener('afterprint', () => $('print').replaceChildren());
   }
@@ -1227,5 +1269,5 @@ class Page {
 const less1 = (at) => (at === null ? null : at - 1);
 
 const headers = [...document.querySelectorAll('script.about')].map((it) => JSON.parse(it.textContent));
-const runs = [...document.querySelectorAll('script.run')].map((it, i) => { const rows = JSON.parse(it.textContent); it.remove(); return new Run(headers[i], rows, i); });
+const runs = [...document.querySelectorAll('script.run')].map((it, i) => { const rows = new Rows(it.textContent); it.remove(); return new Run(headers[i], rows, i); });
 window.page = new Page(runs);

@@ -2,7 +2,7 @@
 use Rattle.std.proofs.Common.{◌≡◌, ◌∙◌, ℕ, List, [], ◌∷◌, ◌++◌, Bool, true, false, Option, Some, None, refl, sym, ap, append_assoc}
 use Rattle.std.specs.Prelude.{codes, Result, Ok, Err, OnOk}
 use Rattle.json.specs.Print.{quoted}
-use Rattle.text_json.specs.Text.{comma_if, items_text, shown_bytes}
+use Rattle.text_markup.specs.Text.{comma_if, items_text, shown_bytes}
 use Rattle.evm_text.specs.Lines.{text_of, text_lines}
 use Rattle.view_page.specs.Pokes.{poke_bytes, poke_item, poke_items, poke_text}
 

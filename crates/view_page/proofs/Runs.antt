@@ -2,10 +2,10 @@
 use Rattle.std.proofs.Common.{◌≡◌, ◌≢◌, ℕ, ◌+◌, ◌-◌, ◌<◌, ◌≤◌, ◌^◌, List, [], ◌∷◌, ◌++◌, length, flat_map, refl, sym, ap, subst, ◌∙◌, append_assoc, arith}
 use Rattle.std.proofs.lemmas.List.{append-nil}
 use Rattle.std.specs.Prelude.{OnOk, Option, Some, None, Result, Ok, Err}
-use Rattle.text_json.specs.Text.{text}
-use Rattle.evm_image.specs.Images.{Contents}
+use Rattle.text_markup.specs.Text.{text}
+use Rattle.evm_ram.specs.Images.{Contents}
 use Rattle.evm_model.specs.Devices.{Attached}
-use Rattle.run_marks.specs.Walks.{Follows, IsBegin, IsNext, Walked, place}
+use Rattle.run_walk.specs.Walks.{Follows, IsBegin, IsNext, Walked, place}
 use Rattle.view_page.specs.Rows.{row_json}
 use Rattle.view_page.specs.Texts.{IsSafe}
 use Rattle.view_page.proofs.Loops.{flat-append}

@@ -3,7 +3,7 @@ use Rattle.std.proofs.Common.{◌≡◌, ◌≢◌, ℕ, zero, suc, ◌+◌, ◌
 use Rattle.std.proofs.lemmas.Bool.{ne_eqb, cases_lt, lt-ltb, le-ltb, cases_eq}
 use Rattle.std.specs.Prelude.{codes, if◌then◌else◌, nat_lt, ◌&&◌}
 use Rattle.json.specs.Json.{Json, number, array, Items, no_items, item}
-use Rattle.text_json.specs.Text.{shown_byte, text, items_text}
+use Rattle.text_markup.specs.Text.{shown_byte, text, items_text}
 use Rattle.evm_text.specs.Written.{character, numeral, decimal}
 use Rattle.view_page.specs.Rows.{row_items, row_json}
 use Rattle.view_page.specs.Texts.{IsSafe, safe_byte, safe_text}

@@ -1,6 +1,6 @@
 -- What is written of each item of a journal: an entry, which is a row of numbers.
 use Rattle.std.specs.Prelude.{ℕ, ◌+◌, ◌-◌, ◌*◌, ◌/◌, ◌%◌, ◌^◌, ◌==◌, List, [], ◌∷◌, ◌++◌, Option, Some, None, Bool, true, false, flat_map, if◌then◌else◌, nat_lt}
-use Rattle.text_json.specs.Text.{text}
+use Rattle.text_markup.specs.Text.{text}
 use Rattle.evm_model.specs.declared.event.Event.{Event as EventOf}
 use Rattle.evm_model.specs.declared.event.Event.TheVariants.{Step, Tick, Raise, Bell, Stop, Go, StepI, SetReg, SetPc, Poke, Break, Unbreak}
 use Rattle.evm_model.specs.declared.fault.Fault.{Fault}
@@ -11,7 +11,7 @@ use Rattle.evm_model.specs.declared.stage.Stage.{Stage}
 use Rattle.evm_model.specs.declared.stage.Stage.TheVariants.{OutOfBand, InBand}
 use Rattle.evm_model.specs.declared.task.Wait.{Wait}
 use Rattle.evm_model.specs.declared.task.Wait.TheVariants as waits
-use Rattle.run_marks.specs.declared.item.Item.{Item}
+use Rattle.run_walk.specs.declared.item.Item.{Item}
 use Rattle.run_marks.specs.declared.mark.Mark.{Mark}
 use Rattle.run_marks.specs.declared.mark.Mark.TheVariants as marks
 use Rattle.view_page.specs.Rows.{row_json}

@@ -1,8 +1,8 @@
 -- A page that tells of a journal, event by event.
 use Rattle.std.specs.Prelude.{◌≡◌, ℕ, ◌-◌, ◌^◌, List, [], ◌∷◌, ◌++◌, Option, Some, None, length}
-use Rattle.evm_image.specs.Images.{Contents}
+use Rattle.evm_ram.specs.Images.{Contents}
 use Rattle.evm_model.specs.Devices.{Attached}
-use Rattle.run_marks.specs.Walks.{Follows, IsBegin, IsMarked, IsNext, Walked, place}
+use Rattle.run_walk.specs.Walks.{Follows, IsBegin, IsMarked, IsNext, Walked, place}
 use Rattle.view_page.specs.Entries.{Entry}
 use Rattle.view_page.specs.Texts.{run_text}
 

@@ -2,7 +2,7 @@
 use Rattle.std.specs.Prelude.{ℕ, List, [], ◌∷◌, ◌++◌, Bool, Option, Some, None, codes}
 use Rattle.json.specs.Json.{Items, no_items, item, string}
 use Rattle.json.specs.Print.{quoted}
-use Rattle.text_json.specs.Text.{comma_if, shown_bytes}
+use Rattle.text_markup.specs.Text.{comma_if, shown_bytes}
 use Rattle.evm_text.specs.Reading.{◌>>=◌, after_word, hexadecimal_at}
 
 -- the bytes of a line that is a poke, in hexadecimal; none of another line

@@ -1,6 +1,6 @@
 -- Texts that stand within the element of a script, and a run as it stands in a page.
 use Rattle.std.specs.Prelude.{◌≡◌, ◌≢◌, ℕ, List, [], ◌∷◌, ◌++◌, flat_map, codes, if◌then◌else◌, ◌==◌}
-use Rattle.text_json.specs.Text.{shown_byte, text}
+use Rattle.text_markup.specs.Text.{shown_byte, text}
 use Rattle.view_page.specs.Entries.{Entry, entries_text}
 use Rattle.view_page.specs.Rows.{row_json}
 

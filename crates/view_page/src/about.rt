@@ -4,9 +4,9 @@ use crate::poking::push_pokes;
 use evm_ram::BASE;
 use evm_room::{Refused, push_text};
 use evm_text::push_decimal;
-use run_marks::{Kind, Named, Names, RunNames};
+use run_walk::{Kind, Named, Names, RunNames};
 use std::alloc::Global;
-use text_json::push_quoted;
+use text_markup::push_quoted;
 use text_symbols::{Map, SourceLine, Symbol, SymbolKind};
 
 /// What a page says of a run.

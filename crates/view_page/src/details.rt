@@ -9,9 +9,8 @@ use evm_dev::Device;
 use evm_exec::Hart;
 use evm_model::{Class, Stage, TIMER_LIMIT, TaskState, Timer};
 use evm_room::Refused;
-use run_marks::{
-    Answered, Caller, Callers, Item, Look, Machine, MadeCall, Mark, call_at, instruction_at,
-};
+use run_marks::{Mark, Observation};
+use run_walk::{Answered, Caller, Callers, Item, Machine, MadeCall, call_at, instruction_at};
 
 /// The devices: where their registers begin, and how many bytes each device has.
 const DEVICES: u64 = 0x1000_0000;
@@ -175,7 +174,7 @@ fn put_store(row: &mut Vec<u64>, hart: &Hart, word: u32) -> Result<(), Refused> 
 fn put_instruction<D: Device>(
     row: &mut Vec<u64>,
     machine: &Machine<D>,
-    look: &Look,
+    observation: &Observation,
     caller: Caller,
     pc: u64,
 ) -> Result<(), Refused> {
@@ -184,7 +183,7 @@ fn put_instruction<D: Device>(
         return Ok(());
     };
     match word & 0x7f {
-        SYSTEM => match call_at(machine, look, caller, pc) {
+        SYSTEM => match call_at(machine, observation, caller, pc) {
             Some(call) => put_call(row, machine, &call),
             None => Ok(()),
         },
@@ -289,12 +288,12 @@ fn put_timers<D: Device>(
 fn put_step<D: Device>(
     row: &mut Vec<u64>,
     machine: &Machine<D>,
-    look: &Look,
+    observation: &Observation,
     known: &Known,
     item: &Item,
 ) -> Result<(), Refused> {
     match (known.callers.of(item), item.pc) {
-        (Some(caller), Some(pc)) => put_instruction(row, machine, look, caller, pc),
+        (Some(caller), Some(pc)) => put_instruction(row, machine, observation, caller, pc),
         _ => Ok(()),
     }
 }
@@ -303,7 +302,7 @@ fn put_step<D: Device>(
 pub(crate) fn put_details<D: Device>(
     row: &mut Vec<u64>,
     machine: &Machine<D>,
-    look: &Look,
+    observation: &Observation,
     known: &mut Known,
     item: &Item,
     marks: &[Mark],
@@ -311,7 +310,7 @@ pub(crate) fn put_details<D: Device>(
     if item.quiet {
         return Ok(());
     }
-    put_step(row, machine, look, known, item)?;
+    put_step(row, machine, observation, known, item)?;
     put_created(row, machine, marks)?;
     put_timers(row, machine, known)
 }

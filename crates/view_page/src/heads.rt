@@ -6,7 +6,7 @@ ghost use Rattle.view_page.specs.Entries.{count_numbers, event_numbers, head_num
 use crate::row::put;
 use evm_ram::BASE;
 use evm_room::Refused;
-use run_marks::{Event, Item};
+use run_walk::{Event, Item};
 
 /// How many numbers the lower half of a number of 64 bits has: scripts of pages know no more than 53 bits.
 const HALF: u64 = 4_294_967_296;

@@ -13,10 +13,10 @@ use crate::shell::{HEAD, TAIL};
 use crate::style::STYLE;
 use crate::telling::push_run;
 use evm_dev::Device;
-use evm_image::Image;
-use evm_program::Meter;
+use evm_ram::Image;
 use evm_room::{Refused, push_text};
-use run_marks::{Devices, Walk, WalkStop};
+use evm_streams::Meter;
+use run_walk::{Devices, Walk, WalkStop};
 use std::alloc::Global;
 
 /// A run that a page tells of.

@@ -4,12 +4,12 @@ ghost use Rattle.std.specs.Prelude.{◌≡◌, ◌++◌, ◌∷◌, ℕ, List, I
 ghost use Rattle.std.specs.String.{string_bytes};
 ghost use Rattle.evm_text.specs.Lines.{text_lines};
 ghost use Rattle.evm_text.specs.Reading.{ReadsAs};
-ghost use Rattle.text_json.specs.Text.{comma_if, items_text};
+ghost use Rattle.text_markup.specs.Text.{comma_if, items_text};
 ghost use Rattle.view_page.specs.Pokes.{poke_bytes, poke_items, poke_text};
 
 use evm_room::{Refused, push_text};
 use evm_text::{after_word, cut_line, hexadecimal_at};
-use text_json::push_quoted;
+use text_markup::push_quoted;
 
 // The bytes of a line that is a poke, in hexadecimal; None of another line.
 fn poke_bytes(line: &[u8]) -> Option<&[u8]>

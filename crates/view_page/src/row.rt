@@ -2,7 +2,7 @@
 
 ghost use Rattle.std.specs.Prelude.{◌≡◌, ◌<◌, ◌≤◌, ◌++◌, ◌∷◌, [], true, OnOk};
 ghost use Rattle.std.specs.String.{string_bytes};
-ghost use Rattle.text_json.specs.Text.{items_text, text};
+ghost use Rattle.text_markup.specs.Text.{items_text, text};
 ghost use Rattle.evm_text.specs.Appending.{Appends};
 ghost use Rattle.view_page.specs.Rows.{row_items, row_json};
 ghost use Rattle.view_page.specs.Texts.{safe_byte, safe_text};

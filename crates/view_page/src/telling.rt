@@ -2,8 +2,8 @@
 
 ghost use Rattle.std.specs.Prelude.{◌≡◌, ◌++◌, ◌∷◌, OnOk, ℕ, List, flat_map};
 ghost use Rattle.std.specs.String.{string_bytes};
-ghost use Rattle.text_json.specs.Text.{text};
-ghost use Rattle.run_marks.specs.Walks.{Walked};
+ghost use Rattle.text_markup.specs.Text.{text};
+ghost use Rattle.run_walk.specs.Walks.{Walked};
 ghost use Rattle.view_page.specs.Entries.{Entry, entries_text, entry_numbers, entry_text};
 ghost use Rattle.view_page.specs.Rows.{row_json};
 ghost use Rattle.view_page.specs.Pages.{TellsAll};
@@ -13,15 +13,16 @@ use crate::heads::put_head;
 use crate::marks::{put_marks, stage_number};
 use crate::row::{push_row, put};
 use evm_dev::Device;
-use evm_program::Meter;
 use evm_room::{Refused, push_text};
-use run_marks::{Item, Look, Machine, Mark, Walk, WalkStop};
+use evm_streams::Meter;
+use run_marks::{Mark, Observation};
+use run_walk::{Item, Machine, Walk, WalkStop};
 use std::alloc::Global;
 
 // Which tasks the processors run.
-fn put_running(row: &mut Vec<u64>, look: &Look) -> Result<(), Refused> {
+fn put_running(row: &mut Vec<u64>, observation: &Observation) -> Result<(), Refused> {
     let mut cpu = 0u64;
-    for lane in look.lanes.as_slice() {
+    for lane in observation.lanes.as_slice() {
         if let Some(running) = lane.running {
             let task = u64::from(running.task);
             put(row, &[100, cpu, task, stage_number(running.stage)])?;
@@ -35,7 +36,7 @@ fn put_running(row: &mut Vec<u64>, look: &Look) -> Result<(), Refused> {
 fn put_start<D: Device>(
     row: &mut Vec<u64>,
     machine: &Machine<D>,
-    look: &Look,
+    observation: &Observation,
 ) -> Result<(), Refused> {
     let boot = machine.boot_numbers();
     put(
@@ -51,7 +52,7 @@ fn put_start<D: Device>(
     for task in 0..machine.task_count() {
         put_task(row, machine, task)?;
     }
-    put_running(row, look)
+    put_running(row, observation)
 }
 
 // The row of an item, with its marks and its details.
@@ -95,7 +96,14 @@ fn details_of<D: Device>(
     marks: &[Mark],
 ) -> Result<(), Refused> {
     details.clear();
-    put_details(details, walk.machine(), walk.look(), known, item, marks)
+    put_details(
+        details,
+        walk.machine(),
+        walk.observation(),
+        known,
+        item,
+        marks,
+    )
 }
 
 // Appends the row of the start.
@@ -107,7 +115,7 @@ fn push_start<D: Device>(
     ensures { OnOk result ((start : List ℕ) × (string_bytes out.new ≡ string_bytes out.old ++ text (row_json start))) }
 {
     row.clear();
-    put_start(row, walk.machine(), walk.look())?;
+    put_start(row, walk.machine(), walk.observation())?;
     push_row(out, row.as_slice())
 }
 
@@ -125,7 +133,7 @@ fn push_entries<D: Device, M: Meter>(
     let mut details = Vec::new(alloc);
     let mut known = Known::new();
     for _item in walk.next_event()..walk.event_count() {
-        known.callers.look(walk.machine());
+        known.callers.see(walk.machine());
         let Some(item) = walk.next(&mut found)? else {
             break;
         };

@@ -8,8 +8,8 @@ use Rattle.view_timeline.specs.declared.cells.Cell.{Cell}
 use Rattle.view_timeline.specs.declared.strips.TheConstants.{STRIP}
 use Rattle.view_timeline.specs.run_marks.Lists.{below}
 use Rattle.view_picture.specs.Boxes.{strip_boxes, with_boxes}
-use Rattle.text_xml.specs.Draft.{Draft}
-use Rattle.text_xml.specs.declared.names.Share.{Share}
+use Rattle.text_markup.specs.Draft.{Draft}
+use Rattle.text_markup.specs.declared.names.Share.{Share}
 
 -- no box
 pub with-none : (draft : Draft) → with_boxes [] draft ≡ draft

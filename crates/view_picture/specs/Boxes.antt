@@ -4,8 +4,8 @@ use Rattle.view_timeline.specs.Strips.{strip_at, strips_of}
 use Rattle.view_timeline.specs.declared.cells.Cell.{Cell}
 use Rattle.evm_model.specs.declared.limits.TheConstants.{PROCESSOR_LIMIT}
 use Rattle.view_timeline.specs.run_marks.Lists.{below}
-use Rattle.text_xml.specs.Draft as model
-use Rattle.text_xml.specs.declared.names.Share.{Share}
+use Rattle.text_markup.specs.Draft as model
+use Rattle.text_markup.specs.declared.names.Share.{Share}
 
 -- a box stands for the events of a cell that are of a lane; there is none where no event is
 abbrev pub box_of : ℕ → Cell → List Share

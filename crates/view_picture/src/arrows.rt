@@ -9,7 +9,7 @@ use crate::shapes::{label, polygon, shape};
 use evm_model::Wait;
 use evm_room::Refused;
 use std::alloc::Global;
-use text_xml::{Draft, Key, Tag};
+use text_markup::{Draft, Key, Tag};
 use view_timeline::{Deed, Mark, Piece, Shown, say, wait_name};
 
 /// A label at a point of the lower row, or of the upper one, where there is room for it.

@@ -8,7 +8,7 @@ use crate::shapes::{label, shape};
 use evm_model::{Stage, Wait};
 use evm_room::Refused;
 use std::alloc::Global;
-use text_xml::{Draft, Key, Tag};
+use text_markup::{Draft, Key, Tag};
 use view_timeline::{
     Cell, Naming, Piece, held_in, is_stalled, push_task, push_waited, say, stage_name, task_on,
 };

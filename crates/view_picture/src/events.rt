@@ -8,7 +8,7 @@ use crate::shapes::{label, sides, title};
 use evm_model::PROCESSOR_LIMIT;
 use evm_room::Refused;
 use std::alloc::Global;
-use text_xml::{Draft, Key, Share, Tag};
+use text_markup::{Draft, Key, Share, Tag};
 use view_timeline::{Cell, Event, Naming, Piece, letter, push_cell, say, share};
 
 fn event_class(cell: &Cell) -> &'static str {

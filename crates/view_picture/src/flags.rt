@@ -9,7 +9,7 @@ use crate::shapes::{label, polygon};
 use evm_model::{Stage, Wait};
 use evm_room::Refused;
 use std::alloc::Global;
-use text_xml::Draft;
+use text_markup::Draft;
 use view_timeline::{Deed, Mark, Piece, Shown, say};
 
 // What is written on a flag: the word, and the task.

@@ -8,7 +8,7 @@ use crate::lines::push_point;
 use crate::shapes::{label, plain};
 use evm_room::Refused;
 use std::alloc::Global;
-use text_xml::{Draft, Key, Tag};
+use text_markup::{Draft, Key, Tag};
 
 fn disc(draft: Draft, class: &str, x: u32, y: u32) -> Result<Draft, Refused>
     requires content { draft.in_tag ≡ false }

@@ -7,7 +7,7 @@ use crate::shapes::{label, polygon, shape};
 use evm_model::Stage;
 use evm_room::Refused;
 use std::alloc::Global;
-use text_xml::{Draft, Key, Tag};
+use text_markup::{Draft, Key, Tag};
 use view_timeline::{Deed, Mark, Naming, Piece, Shown, push_shown, say};
 
 /// Where marks are drawn: the left side of their cell, and the top of their strip; and the names for their words.

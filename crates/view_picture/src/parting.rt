@@ -6,7 +6,7 @@ use crate::layout::{CELL, x_of, y_of};
 use crate::shapes::{label, shape};
 use evm_room::Refused;
 use std::alloc::Global;
-use text_xml::{Draft, Key, Tag};
+use text_markup::{Draft, Key, Tag};
 use view_timeline::{PARTING, Piece, STRIP, say};
 
 fn words_at(alloc: Global, event: u64) -> Result<String, Refused> {

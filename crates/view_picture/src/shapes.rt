@@ -3,7 +3,7 @@
 ghost use Rattle.std.specs.Prelude.{◌≡◌, ◌<◌, false, true, IfOk, length};
 
 use evm_room::Refused;
-use text_xml::{Draft, Key, Tag};
+use text_markup::{Draft, Key, Tag};
 
 /// A side of a shape, in pixels.
 pub(crate) type Side = (Key, u32);

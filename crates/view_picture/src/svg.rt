@@ -2,7 +2,7 @@
 
 ghost use Rattle.std.specs.Prelude.{◌≡◌, ◌<◌, ◌∷◌, [], false, IfOk, length};
 ghost use Rattle.view_picture.specs.Boxes.{boxes_of, lane_boxes, strip_boxes, with_boxes};
-ghost use Rattle.text_xml.specs.Xml.{IsElement};
+ghost use Rattle.text_markup.specs.Xml.{IsElement};
 
 use crate::arrows::arrow_sign;
 use crate::bars::{Row, Subject, bar_names, bars, stalls};
@@ -22,7 +22,7 @@ use crate::style::STYLE;
 use evm_model::{PROCESSOR_LIMIT, Stage};
 use evm_room::Refused;
 use std::alloc::Global;
-use text_xml::{Draft, Key, Tag, finished};
+use text_markup::{Draft, Key, Tag, finished};
 use view_timeline::{
     Cell, Naming, Picture, Piece, STRIP, Shown, Timeline, column_in, column_of, say, stage_name,
     strip_count,

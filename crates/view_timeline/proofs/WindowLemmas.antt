@@ -7,9 +7,9 @@ use Rattle.view_timeline.proofs.RowLemmas.{row-rises}
 use Rattle.view_timeline.specs.Rows.{IsRow, IsWindow, Outline, stretch, window_from, window_to}
 use Rattle.view_timeline.specs.declared.cells.Cell.{Cell}
 use Rattle.view_timeline.specs.declared.gathering.Window.{Window}
-use Rattle.run_marks.specs.Items.{outline}
-use Rattle.run_marks.specs.Walks.{Follows, IsNext, Walked, place}
-use Rattle.run_marks.specs.declared.item.Item.{Item}
+use Rattle.run_walk.specs.Items.{outline}
+use Rattle.run_walk.specs.Walks.{Follows, IsNext, Walked, place}
+use Rattle.run_walk.specs.declared.item.Item.{Item}
 
 -- ---- outlines of a stretch
 map-drop : {X Y : Type 0} (f : X → Y) (n : ℕ) (xs : List X) → drop n (map f xs) ≡ map f (drop n xs)

@@ -5,7 +5,7 @@ use Rattle.view_timeline.specs.declared.cells.TheConstants.{LANE_LIMIT}
 use Rattle.view_timeline.specs.declared.gathering.Window.{Window}
 use Rattle.evm_model.specs.declared.event.Event.{Event as EventOf}
 use Rattle.evm_model.specs.declared.limits.TheConstants.{PROCESSOR_LIMIT}
-use Rattle.run_marks.specs.Items.{actor_of}
+use Rattle.run_walk.specs.Items.{actor_of}
 
 -- an event without the bytes of a Poke
 abbrev pub Outline : Type 0

@@ -6,7 +6,8 @@ ghost use Rattle.view_timeline.specs.declared.cells.TheConstants.{LANE_LIMIT};
 
 use evm_model::{MUTEX_LIMIT, PROCESSOR_LIMIT, Wait};
 use evm_room::{Refused, grow};
-use run_marks::{Event, Item, Lane, Mark, actor_of};
+use run_marks::{Lane, Mark};
+use run_walk::{Event, Item, actor_of};
 use std::alloc::Global;
 
 /// The most cells that a timeline has.

@@ -6,7 +6,7 @@ use crate::places::Naming;
 use crate::words::push_deed;
 use evm_dev::Device;
 use evm_room::Refused;
-use run_marks::{Callers, Event, Item, Walk, WalkStop};
+use run_walk::{Callers, Event, Item, Walk, WalkStop};
 use std::alloc::Global;
 
 /// What an event is found by.
@@ -61,7 +61,7 @@ pub fn find<D: Device>(
     let mut shown = Vec::new(alloc);
     let mut callers = Callers::new();
     for _ in walk.next_event()..walk.event_count() {
-        callers.look(walk.machine());
+        callers.see(walk.machine());
         let Some(item) = walk.next(&mut found)? else {
             break;
         };

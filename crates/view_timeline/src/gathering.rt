@@ -2,15 +2,16 @@
 
 ghost use Rattle.std.specs.Prelude.{◌≡◌, ◌+◌, ◌≤◌, IfOk, OnOk, length, map};
 ghost use Rattle.view_timeline.specs.Rows.{IsWindow};
-ghost use Rattle.run_marks.specs.Items.{outline};
-ghost use Rattle.run_marks.specs.Walks.{Follows, place};
+ghost use Rattle.run_walk.specs.Items.{outline};
+ghost use Rattle.run_walk.specs.Walks.{Follows, place};
 
 use crate::cells::{Deed, Held, Seen, Shown, Timeline};
 use evm_dev::Device;
 use evm_model::{MUTEX_LIMIT, PROCESSOR_LIMIT, TaskState, Wait};
-use evm_program::Meter;
 use evm_room::{Refused, grow};
-use run_marks::{Callers, Item, Look, Machine, Mark, Walk, WalkStop, actor_of, call_at, wasted};
+use evm_streams::Meter;
+use run_marks::{Mark, Observation};
+use run_walk::{Callers, Item, Machine, Walk, WalkStop, actor_of, call_at, wasted};
 use std::alloc::Global;
 
 /// Which events are drawn: those from the first number on, and below the last.
@@ -21,8 +22,8 @@ pub struct Window {
 }
 
 // The owners of the mutexes.
-fn see_owners(seen: &mut Seen, look: &Look) {
-    for (mutex, owner) in look.owners.as_slice().iter().enumerate() {
+fn see_owners(seen: &mut Seen, observation: &Observation) {
+    for (mutex, owner) in observation.owners.as_slice().iter().enumerate() {
         if let Some(held) = seen.mutexes.get_mut(mutex) {
             held.owner = *owner;
         }
@@ -30,8 +31,8 @@ fn see_owners(seen: &mut Seen, look: &Look) {
 }
 
 // For which mutexes a task waits.
-fn see_waits(seen: &mut Seen, look: &Look) {
-    for task in look.tasks.as_slice() {
+fn see_waits(seen: &mut Seen, observation: &Observation) {
+    for task in observation.tasks.as_slice() {
         let TaskState::Waits(Wait::Lock(mutex) | Wait::Reacquire { mutex, .. }) = task.state else {
             continue;
         };
@@ -46,31 +47,31 @@ const FREE: Held = Held {
     waited: false,
 };
 
-fn seen_of(look: &Look) -> Seen {
+fn seen_of(observation: &Observation) -> Seen {
     let mut seen = Seen {
         lanes: [None; PROCESSOR_LIMIT],
         mutexes: [FREE; MUTEX_LIMIT],
     };
     for c in 0..PROCESSOR_LIMIT {
-        seen.lanes[c] = look.lanes.get(c).copied();
+        seen.lanes[c] = observation.lanes.get(c).copied();
     }
-    if look.mutex_count > 0 {
-        see_owners(&mut seen, look);
-        see_waits(&mut seen, look);
+    if observation.mutex_count > 0 {
+        see_owners(&mut seen, observation);
+        see_waits(&mut seen, observation);
     }
     seen
 }
 
 // The processor of a task.
-fn task_cpu(look: &Look, task: u8) -> Option<u8> {
-    match look.tasks.get(usize::from(task)) {
+fn task_cpu(observation: &Observation, task: u8) -> Option<u8> {
+    match observation.tasks.get(usize::from(task)) {
         Some(task) => Some(task.cpu),
         None => None,
     }
 }
 
 // The processor that a mark is about.
-fn subject(mark: &Mark, look: &Look) -> Option<u8> {
+fn subject(mark: &Mark, observation: &Observation) -> Option<u8> {
     match mark {
         Mark::Runs { cpu, .. }
         | Mark::Idles { cpu }
@@ -88,19 +89,19 @@ fn subject(mark: &Mark, look: &Look) -> Option<u8> {
         | Mark::Rank { task, .. }
         | Mark::Ended { task }
         | Mark::Faulted { task, .. }
-        | Mark::Notice { task, .. } => task_cpu(look, *task),
-        Mark::Owner { to: Some(task), .. } => task_cpu(look, *task),
+        | Mark::Notice { task, .. } => task_cpu(observation, *task),
+        Mark::Owner { to: Some(task), .. } => task_cpu(observation, *task),
         Mark::Owner { .. } | Mark::Ticked { .. } => None,
     }
 }
 
 // The owner of the mutex that is waited for.
-fn owner(mark: &Mark, look: &Look) -> Option<u8> {
+fn owner(mark: &Mark, observation: &Observation) -> Option<u8> {
     match mark {
         Mark::Waits {
             wait: Wait::Lock(mutex) | Wait::Reacquire { mutex, .. },
             ..
-        } => match look.owners.get(usize::from(*mutex)) {
+        } => match observation.owners.get(usize::from(*mutex)) {
             Some(owner) => *owner,
             None => None,
         },
@@ -108,21 +109,26 @@ fn owner(mark: &Mark, look: &Look) -> Option<u8> {
     }
 }
 
-fn shown_of(mark: &Mark, item: &Item, look: &Look) -> Shown {
+fn shown_of(mark: &Mark, item: &Item, observation: &Observation) -> Shown {
     Shown {
         deed: Deed::Mark(*mark),
         event: item.first,
         actor: actor_of(&item.event),
-        subject: subject(mark, look),
-        owner: owner(mark, look),
+        subject: subject(mark, observation),
+        owner: owner(mark, observation),
     }
 }
 
-fn show(shown: &mut Vec<Shown>, found: &[Mark], item: &Item, look: &Look) -> Result<(), Refused> {
+fn show(
+    shown: &mut Vec<Shown>,
+    found: &[Mark],
+    item: &Item,
+    observation: &Observation,
+) -> Result<(), Refused> {
     shown.clear();
     for mark in found {
         grow(shown, 1)?;
-        shown.push_reserved(shown_of(mark, item, look));
+        shown.push_reserved(shown_of(mark, item, observation));
     }
     Ok(())
 }
@@ -132,11 +138,11 @@ fn wasted_by<D: Device>(
     callers: &Callers,
     item: &Item,
     machine: &Machine<D>,
-    look: &Look,
+    observation: &Observation,
     found: &[Mark],
 ) -> Option<Shown> {
     let caller = callers.of(item)?;
-    let call = call_at(machine, look, caller, item.pc?)?;
+    let call = call_at(machine, observation, caller, item.pc?)?;
     let object = wasted(&call, found)?;
     Some(Shown {
         deed: Deed::Wasted(caller.task, object),
@@ -155,8 +161,8 @@ pub(crate) fn show_all<D: Device>(
     walk: &Walk<D>,
     callers: &Callers,
 ) -> Result<(), Refused> {
-    show(shown, found, item, walk.look())?;
-    match wasted_by(callers, item, walk.machine(), walk.look(), found) {
+    show(shown, found, item, walk.observation())?;
+    match wasted_by(callers, item, walk.machine(), walk.observation(), found) {
         None => Ok(()),
         Some(one) => {
             grow(shown, 1)?;
@@ -211,8 +217,8 @@ pub fn gather<D: Device, M: Meter>(
         if left == 0 {
             break;
         }
-        let seen = seen_of(walk.look());
-        callers.look(walk.machine());
+        let seen = seen_of(walk.observation());
+        callers.see(walk.machine());
         let Some(item) = walk.next_within(left, &mut found)? else {
             break;
         };
@@ -220,6 +226,6 @@ pub fn gather<D: Device, M: Meter>(
         timeline.add(alloc, &item, &seen, shown.as_slice())?;
         meter.passed(walk.next_event());
     }
-    timeline.mutex_count = walk.look().mutex_count;
+    timeline.mutex_count = walk.observation().mutex_count;
     Ok(timeline)
 }

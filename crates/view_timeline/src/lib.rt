@@ -18,9 +18,10 @@ pub use gathering::{Window, gather};
 pub use picture::Picture;
 pub use pieces::{Piece, say};
 pub use places::{Naming, push_task, push_waited, wait_name};
-pub use run_marks::{
-    Boot, Devices, Event, EventLine, InputFault, Journal, JournalFaultKind, Mark, Names, RunNames,
-    Walk, WalkStop, push_boot_line, push_event_line, read_history,
+pub use run_marks::Mark;
+pub use run_walk::{
+    Boot, Devices, Event, EventLine, InputFault, Journal, JournalFaultKind, Names, RunNames, Walk,
+    WalkStop, push_boot_line, push_event_line, read_history,
 };
 pub use seen::{held_in, is_stalled, letter, same_stage, share, task_on};
 pub use strips::{PARTING, STRIP, column_in, column_of, strip_count};

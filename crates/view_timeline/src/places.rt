@@ -4,7 +4,7 @@ use crate::pieces::{Piece, say};
 use Piece::{Address, Number, Text};
 use evm_model::Wait;
 use evm_room::Refused;
-use run_marks::{Names, RunNames};
+use run_walk::{Names, RunNames};
 use text_symbols::{CodeSpot, push_code};
 
 /// The names that a text may use.

@@ -4,7 +4,8 @@ ghost use Rattle.std.specs.Prelude.{◌≡◌, get_or};
 
 use crate::cells::{Cell, Held};
 use evm_model::Stage;
-use run_marks::{Event, Lane};
+use run_marks::Lane;
+use run_walk::Event;
 
 fn lane_at(cell: &Cell, cpu: u8) -> Option<Lane> {
     match cell.seen.lanes.get(usize::from(cpu)) {

@@ -6,7 +6,8 @@ use crate::places::{Naming, push_place, push_task, push_waited};
 use Piece::{Address, Number, Text};
 use evm_model::{Fault, NoticeKind, Stage, Wait};
 use evm_room::{Refused, push_text};
-use run_marks::{Event, Mark};
+use run_marks::Mark;
+use run_walk::Event;
 
 /// The name of a stage.
 pub fn stage_name(stage: Stage) -> &'static str {

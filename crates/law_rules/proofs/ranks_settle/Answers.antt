@@ -1,4 +1,4 @@
-use Rattle.law_ranks.proofs.Rounds.{rank_after-own, rounds_settle, settled_is_one, rounds_boost}
+use Rattle.evm_model.proofs.Rounds.{rank_after-own, rounds_settle, settled_is_one, rounds_boost}
 use Rattle.law_rules.proofs.ranks_settle.Goals as goal
 
 pub returns-clause-settle : goal.returns-clause-settle

@@ -1,4 +1,4 @@
-use Rattle.law_ranks.proofs.Walks.{walks_end, never_returns}
+use Rattle.evm_model.proofs.Walks.{walks_end, never_returns}
 use Rattle.law_rules.proofs.walks_end.Goals as goal
 
 pub returns-clause-ends : goal.returns-clause-ends

@@ -7,7 +7,7 @@ use evm_core::{Boot, Devices, Event, EventLine, Machine};
 use evm_devs::Pins;
 use evm_elf::{read_image, write_bytes};
 use evm_ram::BASE;
-use hunt_same::have_same_boards;
+use hunt_states::have_same_boards;
 use std::alloc::Global;
 
 /// `j .`: jal x0, 0.

@@ -1,6 +1,6 @@
 use Rattle.std.proofs.Common.{◌≡◌, ◌≢◌, ℕ, List, Some, slice_get, length, inl, inr, ap, ◌∙◌}
-use Rattle.law_ranks.proofs.Greatest.{greatest-first, greatest-booster, greatest-none}
-use Rattle.law_ranks.specs.Boosts.{rank_after}
+use Rattle.evm_model.proofs.Greatest.{greatest-first, greatest-booster, greatest-none}
+use Rattle.evm_model.specs.Boosts.{rank_after}
 use Rattle.evm_model.specs.Mutexes.{owner, owner_of, boosts, ceiling_owner, ceiling}
 use Rattle.evm_model.specs.Ranks.{class_rank_of, own_rank, rank}
 use Rattle.evm_model.specs.declared.limits.TheConstants.{TASK_LIMIT}

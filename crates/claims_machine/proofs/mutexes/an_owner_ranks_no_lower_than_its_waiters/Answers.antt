@@ -1,6 +1,6 @@
 use Rattle.std.proofs.Common.{◌≡◌, ℕ, ◌<◌, ◌≤◌, List, Some, length, ◌⊎◌, inl, inr, ◌∙◌}
 use Rattle.law_rules.specs.Ranking.{RoundsBoost, RoundsSettle}
-use Rattle.law_ranks.specs.Boosts.{rank_after}
+use Rattle.evm_model.specs.Boosts.{rank_after}
 use Rattle.evm_model.specs.Good.{AreLocks}
 use Rattle.evm_model.specs.Mutexes.{boosts}
 use Rattle.evm_model.specs.Ranks.{own_rank, rank}

@@ -1,6 +1,6 @@
 use Rattle.std.proofs.Common.{◌≡◌, ◌≢◌, ℕ, ◌<◌, List, Option, Some, None, slice_get, length, refl, ap, ◌∙◌}
 use Rattle.law_rules.specs.Ranking.{WalksNeverReturn}
-use Rattle.law_ranks.specs.Boosts.{walk}
+use Rattle.evm_model.specs.Boosts.{walk}
 use Rattle.evm_model.specs.Good.{AreLocks}
 use Rattle.evm_model.specs.Mutexes.{owner, owner_of, lock_at, waits_on}
 use Rattle.evm_model.specs.declared.limits.TheConstants.{TASK_LIMIT}

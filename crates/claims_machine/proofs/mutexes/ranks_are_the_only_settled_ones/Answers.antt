@@ -1,6 +1,6 @@
 use Rattle.std.proofs.Common.{◌≡◌, ℕ, ◌<◌, List, length}
 use Rattle.law_rules.specs.Ranking.{RoundsSettle, SettledIsOne}
-use Rattle.law_ranks.specs.Boosts.{IsSettledRank}
+use Rattle.evm_model.specs.Boosts.{IsSettledRank}
 use Rattle.evm_model.specs.Good.{AreLocks}
 use Rattle.evm_model.specs.Mutexes.{boosts}
 use Rattle.evm_model.specs.Ranks.{own_rank, rank}

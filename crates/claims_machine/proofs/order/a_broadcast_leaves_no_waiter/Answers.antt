@@ -7,7 +7,7 @@ use Rattle.evm_model.specs.Waits.{awaits_task, awaits, is_wait_for}
 use Rattle.evm_model.specs.declared.task.Task.{Task}
 use Rattle.evm_model.specs.declared.task.TaskState.TheVariants.{Waits}
 use Rattle.evm_model.specs.declared.task.Wait.TheVariants.{Event}
-use Rattle.law_walk.proofs.Waiters.{wait_is}
+use Rattle.law_rules.proofs.Waiters.{wait_is}
 use Rattle.law_runs.proofs.Sooner.{how_many, none_left}
 use Rattle.claims_machine.proofs.Signalling.{Signals, signals}
 use Rattle.claims_machine.proofs.order.a_broadcast_leaves_no_waiter.Goals as goal

@@ -2,8 +2,8 @@ use Rattle.std.proofs.Common.{◌≡◌, ℕ, zero, suc, ◌<◌, List, Bool, tr
 use Rattle.std.specs.Prelude.{slice_get, option_map, if◌then◌else◌}
 use Rattle.std.proofs.Math.Nat.{eq-or-lt_of_le}
 use Rattle.std.proofs.lemmas.Option.{slice_get_within}
-use Rattle.law_ranks.specs.Boosts.{is_number}
-use Rattle.law_ranks.proofs.Greatest.{boosts-is, boosts-so}
+use Rattle.evm_model.specs.Boosts.{is_number}
+use Rattle.evm_model.proofs.Greatest.{boosts-is, boosts-so}
 use Rattle.evm_model.proofs.Lists.{change-here}
 use Rattle.evm_model.specs.Lists.{change}
 use Rattle.evm_model.specs.Mutexes.{owner_of, owner, owns_below, owns_any}

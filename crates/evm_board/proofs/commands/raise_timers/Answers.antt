@@ -3,7 +3,7 @@ use Rattle.evm_model.specs.Bounds.{COUNT_LIMIT}
 use Rattle.evm_model.specs.Pipes.{Pipe, raise}
 use Rattle.evm_model.specs.State.{Parts, on_pipe}
 use Rattle.evm_model.specs.declared.limits.TheConstants.{PROCESSOR_LIMIT}
-use Rattle.law_walk.proofs.Counted.{PipesUpTo-more}
+use Rattle.law_rules.proofs.Counted.{PipesUpTo-more}
 use Rattle.law_rules.proofs.Counting.{on_raise-up}
 use Rattle.evm_board.proofs.Ticks.{timers-none, timers-more, timers-all}
 use Rattle.evm_board.proofs.commands.raise_timers.Goals as goal

@@ -1,4 +1,5 @@
 use Rattle.std.proofs.Common.{◌≡◌, ◌<◌, ◌≤◌, ◌++◌, ◌∙◌, ℕ, List, Option, Some, None, Ok, length, ap, subst, arith, rules}
+use Rattle.std.proofs.lemmas.Result.{err_from_is_err_and}
 use Rattle.std.specs.Prelude.{slice_get}
 use Rattle.evm_journal.specs.evm_core.Views.{device_word}
 use Rattle.evm_journal.specs.evm_text.Appending.{Appends}
@@ -34,19 +35,20 @@ words-preserved g c =
     let is : slice_get words c.words.k ≡ Some c.in-Some.word = word_found devices c.args.i c.words.k c.in-Some.word c.in-Some.ensures in
     let within : c.words.k < length words = is_within words c.words.k c.in-Some.word is in
     record {
-      appended = appends_more _ _ _ _ _ _ c.words.invariant.appended c.in-Ok.ensures (words_below-more c.words.k words ∙ ap (λ (o : Option ℕ). words_below c.words.k words ++ blank_word o) is);
+      appended = appends_more _ _ _ _ _ _ c.words.invariant.appended c.in_ok-push_word.ensures (words_below-more c.words.k words ∙ ap (λ (o : Option ℕ). words_below c.words.k words ++ blank_word o) is);
       within = omega (arith, within);
     }
 
-pub returns-in-Err : goal.returns-in-Err
-returns-in-Err g c =
+pub returns-in_err-push_word : goal.returns-in_err-push_word
+returns-in_err-push_word g c =
     let devices = c.args.machine.now.board.memory.devices in
     let words : List ℕ = words_in (slice_get devices c.args.i) in
     let is : slice_get words c.words.k ≡ Some c.in-Some.word = word_found devices c.args.i c.words.k c.in-Some.word c.in-Some.ensures in
     let within : c.words.k < length words = is_within words c.words.k c.in-Some.word is in
     let size = ap (λ (o : Option ℕ). length (blank_word o)) is in
     let longer = words_below-longer c.words.k (length words) words within in
-    appends_front _ _ _ _ _ _ _ c.words.invariant.appended c.in-Err.ensures (omega (arith, size, longer))
+    let p = err_from_is_err_and c.from_residual.result c.from_residual.ensures.1 in
+    rw (p.1, p.2) (appends_front _ _ _ _ _ _ _ c.words.invariant.appended c.in_err-push_word.ensures (omega (arith, size, longer)))
 
 pub returns : goal.returns
 returns g c =

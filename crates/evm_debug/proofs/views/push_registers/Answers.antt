@@ -1,4 +1,5 @@
 use Rattle.std.proofs.Common.{◌≡◌, ◌++◌, ◌+◌, ◌-◌, ◌*◌, ◌<◌, List, [], ℕ, Ok, length, refl, ap, sym, subst, ◌∙◌, append_assoc, arith}
+use Rattle.std.proofs.lemmas.Result.{err_from_is_err_and}
 use Rattle.std.proofs.lemmas.List.{append-nil, length-append}
 use Rattle.evm_journal.specs.evm_text.Appending.{Appends}
 use Rattle.evm_journal.proofs.evm_text.Appending.{appends_none, appends_more, appends_front}
@@ -17,19 +18,20 @@ loop-line-preserved c =
     let below : i < 8 = omega arith in
     let so_far = c.loop-line.invariant in (
       so_far.0 ++ four_registers (i * 4) regs,
-      appends_more _ _ _ _ _ _ so_far.1 c.in-Ok.ensures refl,
+      appends_more _ _ _ _ _ _ so_far.1 c.in_ok-push_register_line.ensures refl,
       append_assoc so_far.0 (four_registers (i * 4) regs) tail ∙ ap (λ (text : List ℕ). so_far.0 ++ text) (sym (register_lines-more i 8 regs below)) ∙ so_far.2,
     )
 
-pub returns-in-Err : goal.returns-in-Err
-returns-in-Err c =
+pub returns-in_err-push_register_line : goal.returns-in_err-push_register_line
+returns-in_err-push_register_line c =
     let i : ℕ = c.loop-line.line in
     let regs : List ℕ = c.args.hart.now.regs in
     let below : i < 8 = omega arith in
     let so_far = c.loop-line.invariant in
     let rest = ap length (register_lines-more i 8 regs below) ∙ length-append (four_registers (i * 4) regs) (register_lines ((i + 1) * 4) (8 - (i + 1)) regs) in
     let whole = sym (ap length so_far.2) ∙ length-append so_far.0 (register_lines (i * 4) (8 - i) regs) in
-    appends_front _ _ _ _ _ _ _ so_far.1 c.in-Err.ensures (omega (arith, rest, whole))
+    let p = err_from_is_err_and c.from_residual.result c.from_residual.ensures.1 in
+    rw (p.1, p.2) (appends_front _ _ _ _ _ _ _ so_far.1 c.in_err-push_register_line.ensures (omega (arith, rest, whole)))
 
 pub returns : goal.returns
 returns c =

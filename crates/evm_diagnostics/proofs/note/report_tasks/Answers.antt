@@ -1,5 +1,5 @@
 use Rattle.std.proofs.Common.{List, refl, sym, subst}
-use Rattle.evm_messages.specs.Diagnostic.{Place, TellsAll}
+use Rattle.evm_streams.specs.Diagnostic.{Place, TellsAll}
 use Rattle.evm_diagnostics.proofs.Notes.{places_below-none, places_below-more, tells_append}
 use Rattle.evm_diagnostics.proofs.note.report_tasks.Goals as goal
 

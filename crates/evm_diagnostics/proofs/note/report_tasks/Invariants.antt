@@ -1,4 +1,4 @@
-use Rattle.evm_messages.specs.Diagnostic.{TellsAll}
+use Rattle.evm_streams.specs.Diagnostic.{TellsAll}
 use Rattle.evm_diagnostics.specs.Notes.{places_below}
 use Rattle.evm_diagnostics.proofs.note.report_tasks.Given as goal
 

@@ -1,6 +1,6 @@
 -- an accepted file's image is sound
 use Rattle.std.proofs.Common.{subst}
-use Rattle.evm_image.specs.Images.{IsSound}
+use Rattle.evm_ram.specs.Images.{IsSound}
 use Rattle.evm_elf.proofs.Sound.{sound, built}
 use Rattle.evm_elf.proofs.reading.image.Goals as goal
 

@@ -1,7 +1,7 @@
 -- one more segment is made, or none
 use Rattle.std.proofs.Common.{List, ◌+◌, ◌-◌, ◌++◌, ◌∷◌, [], map, sym, ◌∙◌, ap}
 use Rattle.std.specs.List.{filter_map}
-use Rattle.evm_image.specs.Images.{Loaded}
+use Rattle.evm_ram.specs.Images.{Loaded}
 use Rattle.evm_elf.specs.Fields.{headers_from}
 use Rattle.evm_elf.specs.Faults.{load_of, segment_of}
 use Rattle.evm_elf.proofs.Headers.{made_some, made_none}

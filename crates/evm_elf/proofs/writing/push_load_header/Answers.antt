@@ -1,7 +1,7 @@
 -- eight fields, one behind the other
 use Rattle.std.proofs.Common.{◌≡◌, ℕ, List, ◌++◌, ◌∙◌, ap, append_assoc}
 use Rattle.byteorder.specs.Endian.{little_bytes}
-use Rattle.evm_image.specs.Images.{range_start}
+use Rattle.evm_ram.specs.Images.{range_start}
 use Rattle.evm_elf.proofs.writing.push_load_header.Goals as goal
 
 two_words : (f0 f1 f2 a b : List ℕ) → f1 ≡ f0 ++ a → f2 ≡ f1 ++ b → f2 ≡ f0 ++ (a ++ b)

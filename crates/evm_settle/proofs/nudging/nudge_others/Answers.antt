@@ -1,7 +1,7 @@
 use Rattle.std.proofs.Common.{◌+◌, ◌-◌, ◌∙◌, sym, ap, arith}
 use Rattle.evm_model.specs.Bounds.{COUNT_LIMIT}
 use Rattle.evm_model.specs.declared.limits.TheConstants.{PROCESSOR_LIMIT}
-use Rattle.law_rules.proofs.law_walk.Counted.{PipesUpTo-more}
+use Rattle.law_rules.proofs.Counted.{PipesUpTo-more}
 use Rattle.evm_settle.specs.Nudges.{nudge_one}
 use Rattle.evm_settle.proofs.Nudges.{nudge_one-none, nudge_one-more, nudge_one-all, nudge_one-up}
 use Rattle.evm_settle.proofs.nudging.nudge_others.Goals as goal

@@ -1,7 +1,7 @@
 use Rattle.std.proofs.Common.{◌≡◌, ◌+◌, ◌-◌, ◌*◌, ◌∷◌, length, refl, ap, arith}
 use Rattle.evm_model.specs.Bounds.{COUNT_LIMIT}
 use Rattle.evm_model.specs.Settle.{play_oob_lines}
-use Rattle.law_rules.proofs.law_walk.Counted.{PipesUpTo-more}
+use Rattle.law_rules.proofs.Counted.{PipesUpTo-more}
 use Rattle.law_rules.proofs.Counting.{play_oob-up}
 use Rattle.evm_settle.proofs.playing.play_oob_lines.Goals as goal
 

@@ -1,7 +1,7 @@
 use Rattle.std.proofs.Common.{◌≡◌, ◌∷◌, ◌++◌, [], Ok, ap, subst, sym, ◌∙◌}
 use Rattle.evm_model.specs.Event.{Event, event_lent, short_event}
 use Rattle.evm_model.specs.Replay.{apply}
-use Rattle.hunt_schedules.proofs.Failing.{has_failed, lent-short}
+use Rattle.hunt_schedules.proofs.Advancing.{has_failed, lent-short}
 use Rattle.hunt_schedules.proofs.running.advance.Goals as goal
 
 pub returns-in-Ok-clause-fails : goal.returns-in-Ok-clause-fails

@@ -1,8 +1,8 @@
 use Rattle.std.proofs.Common.{length}
 use Rattle.hunt_search.proofs.Branching.{steps-to, walks, walks-out}
-use Rattle.hunt_schedules.specs.Failures.{FailsAsWanted}
+use Rattle.hunt_failures.specs.Failures.{FailsAsWanted}
 use Rattle.hunt_schedules.specs.Making.{MayMake}
-use Rattle.hunt_switches.proofs.Going.{walked-into}
+use Rattle.hunt_schedules.proofs.Going.{walked-into}
 use Rattle.hunt_search.proofs.going.go_on.Goals as goal
 
 pub steps-preserved : goal.steps-preserved

@@ -3,8 +3,8 @@ use Rattle.hunt_search.proofs.Branching.{IsWalkedBy}
 use Rattle.evm_model.specs.Replay.{IsReplayOf}
 use Rattle.evm_model.specs.State.{State}
 use Rattle.hunt_schedules.specs.Beginning.{Begins}
-use Rattle.hunt_switches.specs.Branches.{KeepsBranches}
-use Rattle.hunt_switches.specs.Walks.{IsReached}
+use Rattle.hunt_schedules.specs.Branches.{KeepsBranches}
+use Rattle.hunt_schedules.specs.Walks.{IsReached}
 use Rattle.hunt_search.proofs.going.go_on.Given as goal
 
 abbrev pub invariant-steps : goal.invariant-steps

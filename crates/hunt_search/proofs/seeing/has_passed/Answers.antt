@@ -1,7 +1,7 @@
 use Rattle.std.proofs.Common.{◌≡◌, ◌<◌, ◌++◌, ◌∷◌, [], ℕ, Some, length, sym, subst, arith}
 use Rattle.std.proofs.lemmas.Bool.Decides.{nat_tests}
 use Rattle.std.specs.Prelude.{slice_get}
-use Rattle.hunt_switches.proofs.Going.{at-last}
+use Rattle.hunt_schedules.proofs.Going.{at-last}
 use Rattle.hunt_search.proofs.seeing.has_passed.Goals as goal
 
 pub returns-then-mark-walked : goal.returns-then-mark-walked

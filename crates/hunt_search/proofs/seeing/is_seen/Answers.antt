@@ -1,7 +1,7 @@
 use Rattle.std.proofs.Common.{◌≡◌, ◌++◌, Some, rules, true, length, refl, sym, ap, subst, ◌∙◌}
 use Rattle.std.specs.Prelude.{replicate, slice_get}
 use Rattle.evm_model.specs.State.{State}
-use Rattle.hunt_switches.specs.Walks.{IsReached}
+use Rattle.hunt_schedules.specs.Walks.{IsReached}
 use Rattle.hunt_search.proofs.Branching.{one-first, same-kinds}
 use Rattle.hunt_search.proofs.seeing.is_seen.Goals as goal
 

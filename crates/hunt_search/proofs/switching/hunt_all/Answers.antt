@@ -1,9 +1,9 @@
 use Rattle.std.proofs.Common.{◌≡◌, ◌+◌, [], ◌∷◌, ◌++◌, List, ℕ, length, sym, ap, subst, ◌∙◌, arith}
 use Rattle.std.proofs.lemmas.List.{length_push}
 use Rattle.hunt_search.proofs.Branching.{AreSearchedTo, searched-all, searched-more}
-use Rattle.hunt_schedules.specs.Failures.{FailsAsWanted}
+use Rattle.hunt_failures.specs.Failures.{FailsAsWanted}
 use Rattle.hunt_schedules.specs.Making.{MayMake}
-use Rattle.hunt_switches.specs.Searches.{IsPassed, IsSearched}
+use Rattle.hunt_schedules.specs.Searches.{IsPassed, IsSearched}
 use Rattle.hunt_search.proofs.switching.hunt_all.Goals as goal
 
 pub places-preserved : goal.places-preserved

@@ -2,8 +2,8 @@ use Rattle.std.proofs.Common.{[], ◌∷◌, subst, sym}
 use Rattle.hunt_search.proofs.Making.{attempted-if, not-accepted}
 use Rattle.evm_model.specs.Event.{Event, short_event}
 use Rattle.evm_model.specs.State.{State}
-use Rattle.hunt_schedules.specs.Failures.{FailsAsWanted}
-use Rattle.hunt_switches.specs.Walks.{HasPassed}
+use Rattle.hunt_failures.specs.Failures.{FailsAsWanted}
+use Rattle.hunt_schedules.specs.Walks.{HasPassed}
 use Rattle.hunt_search.proofs.walking.attempt.Goals as goal
 
 pub returns-in-Ok-clause-passes : goal.returns-in-Ok-clause-passes

@@ -1,11 +1,11 @@
 use Rattle.std.proofs.Common.{◌∷◌, ◌++◌, [], ◌≡◌, ◌+◌, List, take, get_or, subst, sym}
 use Rattle.std.proofs.lemmas.List.{take_more}
-use Rattle.hunt_schedules.specs.Failures.{FailsAsWanted}
-use Rattle.hunt_switches.proofs.Walking.{passed-none, passed-turn}
-use Rattle.hunt_switches.specs.Branches.{events_of_turns}
-use Rattle.hunt_switches.specs.Walks.{HasPassed}
-use Rattle.hunt_switches.specs.declared.branch.Choice.TheVariants as choices
-use Rattle.hunt_switches.specs.declared.branch.CpuTurn.{CpuTurn}
+use Rattle.hunt_failures.specs.Failures.{FailsAsWanted}
+use Rattle.hunt_schedules.proofs.Walking.{passed-none, passed-turn}
+use Rattle.hunt_schedules.specs.Branches.{events_of_turns}
+use Rattle.hunt_schedules.specs.Walks.{HasPassed}
+use Rattle.hunt_schedules.specs.declared.branch.Choice.TheVariants as choices
+use Rattle.hunt_schedules.specs.declared.branch.CpuTurn.{CpuTurn}
 use Rattle.hunt_search.proofs.walking.begin_with.Goals as goal
 
 pub turns-init : goal.turns-init

@@ -1,9 +1,9 @@
 use Rattle.std.proofs.Common.{take}
 use Rattle.evm_model.specs.Replay.{IsReplayOf}
 use Rattle.evm_model.specs.State.{State}
-use Rattle.hunt_schedules.specs.Failures.{FailsAsWanted}
-use Rattle.hunt_switches.specs.Branches.{events_of_turns}
-use Rattle.hunt_switches.specs.Walks.{HasPassed}
+use Rattle.hunt_failures.specs.Failures.{FailsAsWanted}
+use Rattle.hunt_schedules.specs.Branches.{events_of_turns}
+use Rattle.hunt_schedules.specs.Walks.{HasPassed}
 use Rattle.hunt_search.proofs.walking.begin_with.Given as goal
 
 abbrev pub invariant-turns : goal.invariant-turns

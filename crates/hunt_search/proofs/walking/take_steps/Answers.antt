@@ -1,5 +1,5 @@
-use Rattle.hunt_schedules.specs.Failures.{FailsAsWanted}
-use Rattle.hunt_switches.proofs.Walking.{passed-none, passed-step}
+use Rattle.hunt_failures.specs.Failures.{FailsAsWanted}
+use Rattle.hunt_schedules.proofs.Walking.{passed-none, passed-step}
 use Rattle.hunt_search.proofs.walking.take_steps.Goals as goal
 
 pub steps-init : goal.steps-init

@@ -2,10 +2,10 @@ use Rattle.std.proofs.Common.{[], ◌∷◌, replicate, subst}
 use Rattle.hunt_search.proofs.Making.{if-none}
 use Rattle.evm_model.specs.Event.{Event, short_event}
 use Rattle.evm_model.specs.declared.event.Event.TheVariants.{Step}
-use Rattle.hunt_schedules.specs.Failures.{FailsAsWanted}
-use Rattle.hunt_switches.proofs.Walking.{passed-append}
-use Rattle.hunt_switches.specs.Branches.{event_of_choice, turn_events}
-use Rattle.hunt_switches.specs.Walks.{HasPassed}
+use Rattle.hunt_failures.specs.Failures.{FailsAsWanted}
+use Rattle.hunt_schedules.proofs.Walking.{passed-append}
+use Rattle.hunt_schedules.specs.Branches.{event_of_choice, turn_events}
+use Rattle.hunt_schedules.specs.Walks.{HasPassed}
 use Rattle.hunt_search.proofs.walking.take_turn.Goals as goal
 
 pub returns-clause-passes : goal.returns-clause-passes

@@ -1,6 +1,6 @@
 use Rattle.std.proofs.Common.{◌≡◌, ℕ, ◌<◌, true}
 use Rattle.std.specs.Prelude.{slice_get}
-use Rattle.hunt_schedules.specs.Failures.{is_off}
+use Rattle.hunt_failures.specs.Failures.{is_off}
 use Rattle.run_schedule.proofs.looking.are_off.Given as goal
 
 abbrev pub invariant-timers : goal.invariant-timers

@@ -1,7 +1,7 @@
 use Rattle.std.proofs.Common.{◌≡◌, ◌++◌, false, length}
 use Rattle.std.specs.String.{string_bytes}
 use Rattle.evm_text.specs.Lines.{text_lines}
-use Rattle.text_json.specs.Text.{items_text}
+use Rattle.text_markup.specs.Text.{items_text}
 use Rattle.view_page.specs.Pokes.{poke_items}
 use Rattle.view_page.proofs.poking.push_pokes.Given as goal
 

@@ -1,8 +1,8 @@
 use Rattle.std.proofs.Common.{◌≡◌, ◌<◌, ◌≤◌, ◌-◌, ◌^◌, List, length, sym, subst, arith}
 use Rattle.std.specs.Prelude.{Option, Some, None}
 use Rattle.std.specs.String.{string_bytes}
-use Rattle.run_marks.specs.Walks.{IsMarked, IsNext, Walked, place}
-use Rattle.run_marks.specs.declared.item.Item.{Item}
+use Rattle.run_walk.specs.Walks.{IsMarked, IsNext, Walked, place}
+use Rattle.run_walk.specs.declared.item.Item.{Item}
 use Rattle.run_marks.specs.declared.mark.Mark.{Mark}
 use Rattle.view_page.specs.Entries.{Entry}
 use Rattle.view_page.proofs.Runs.{ended, goes, tells-all}

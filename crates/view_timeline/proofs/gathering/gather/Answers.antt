@@ -1,8 +1,8 @@
 use Rattle.std.proofs.Common.{◌≡◌, Option, arith, ap, ◌∙◌, length, subst}
 use Rattle.std.specs.Prelude.{min}
 use Rattle.view_timeline.proofs.WindowLemmas.{going, window-ended, window-reached}
-use Rattle.run_marks.specs.Walks.{IsNext}
-use Rattle.run_marks.specs.declared.item.Item.{Item}
+use Rattle.run_walk.specs.Walks.{IsNext}
+use Rattle.run_walk.specs.declared.item.Item.{Item}
 use Rattle.view_timeline.proofs.gathering.gather.Goals as goal
 use Rattle.view_timeline.proofs.gathering.gather.Goals.{else-loop-event-test, then-loop-event-test+then-left-eq0, then-loop-event-test+else-left-eq0+in_ok-item+in_default}
 

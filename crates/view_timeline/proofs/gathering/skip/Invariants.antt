@@ -1,6 +1,6 @@
 use Rattle.std.proofs.Common.{◌≡◌, ◌+◌, ◌*◌}
 use Rattle.view_timeline.specs.declared.gathering.TheConstants.{SKIPPED}
-use Rattle.run_marks.specs.Walks.{Follows, place}
+use Rattle.run_walk.specs.Walks.{Follows, place}
 use Rattle.view_timeline.proofs.gathering.skip.Given as goal
 
 -- so many parts were skipped

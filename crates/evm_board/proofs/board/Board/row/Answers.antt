@@ -3,7 +3,7 @@ use Rattle.evm_model.specs.Event.{event_lent}
 use Rattle.evm_model.specs.Refusals.{board_refusal}
 use Rattle.evm_model.specs.declared.event.Event.TheVariants.{Break}
 use Rattle.evm_model.specs.declared.refusal.Refusal.TheVariants.{NoSlot}
-use Rattle.law_walk.proofs.Refused.{passes}
+use Rattle.law_rules.proofs.Refused.{passes}
 use Rattle.evm_board.proofs.board.Board.row.Goals as goal
 
 pub set_breakpoint-requires-after_bounds : goal.set_breakpoint-requires-after_bounds

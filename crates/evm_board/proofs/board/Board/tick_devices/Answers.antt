@@ -1,6 +1,6 @@
 use Rattle.std.proofs.Common.{◌-◌, ◌∙◌, refl, arith}
 use Rattle.evm_model.specs.Bounds.{COUNT_LIMIT, STAMPS_PER_EVENT}
-use Rattle.law_walk.proofs.Counted.{PipesUpTo-more}
+use Rattle.law_rules.proofs.Counted.{PipesUpTo-more}
 use Rattle.evm_board.proofs.TickedDevices.{all-ticked, clock-more, lines-more, room-more, seen-more, seen-none}
 use Rattle.evm_board.proofs.board.Board.tick_devices.Goals as goal
 

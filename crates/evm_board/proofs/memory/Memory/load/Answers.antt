@@ -1,7 +1,7 @@
 use Rattle.std.proofs.Common.{◌≤◌, List, length, ap, sym, ◌∙◌, arith}
 use Rattle.std.specs.Prelude.{replicate}
 use Rattle.std.proofs.lemmas.List.{at_drop_all}
-use Rattle.evm_image.specs.Images.{Loaded}
+use Rattle.evm_ram.specs.Images.{Loaded}
 use Rattle.evm_model.specs.State.{Memory}
 use Rattle.evm_board.proofs.Loads.{all_poked, all_poked-image}
 use Rattle.evm_board.proofs.memory.Memory.load.Goals as goal

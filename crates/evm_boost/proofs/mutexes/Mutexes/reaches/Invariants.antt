@@ -1,5 +1,5 @@
 use Rattle.std.proofs.Common.{◌≡◌, ◌-◌, Some}
-use Rattle.law_ranks.specs.Boosts.{reaches}
+use Rattle.evm_model.specs.Boosts.{reaches}
 use Rattle.evm_model.specs.Mutexes.{waits_on}
 use Rattle.evm_model.specs.declared.limits.TheConstants.{TASK_LIMIT}
 use Rattle.evm_boost.proofs.mutexes.Mutexes.reaches.Given as goal

@@ -1,7 +1,7 @@
 use Rattle.std.proofs.Common.{◌∙◌, sym, ap}
 use Rattle.evm_boost.proofs.Settled.{settled-scheduled}
 use Rattle.evm_boost.specs.Scheduled.{Scheduled}
-use Rattle.law_ranks.specs.Mending.{no_task, with_task}
+use Rattle.evm_model.specs.Mending.{no_task, with_task}
 use Rattle.evm_boost.proofs.schedule.Schedule.mend.Goals as goal
 
 pub reckon-requires : goal.reckon-requires

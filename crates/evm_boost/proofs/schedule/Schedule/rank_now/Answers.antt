@@ -2,7 +2,7 @@ use Rattle.std.proofs.Common.{◌∙◌, ap, refl, sym}
 use Rattle.evm_boost.proofs.Owning.{greatest-end, greatest-set, greatest-step}
 use Rattle.evm_boost.specs.Lent.{lent_rank}
 use Rattle.evm_boost.specs.Owning.{greatest_of}
-use Rattle.law_ranks.specs.Boosts.{greater}
+use Rattle.evm_model.specs.Boosts.{greater}
 use Rattle.evm_boost.proofs.schedule.Schedule.rank_now.Goals as goal
 
 pub lending-init : goal.lending-init

@@ -1,6 +1,6 @@
 use Rattle.std.proofs.Common.{◌∙◌, refl, arith}
 use Rattle.evm_boost.proofs.Settled.{settled-at, settled-none, settled-over}
-use Rattle.law_ranks.proofs.Mending.{walk-none, walk-more}
+use Rattle.evm_model.proofs.Mending.{walk-none, walk-more}
 use Rattle.evm_boost.proofs.schedule.Schedule.walk_from.Goals as goal
 
 pub loop-link-init : goal.loop-link-init

@@ -1,8 +1,8 @@
 use Rattle.std.proofs.Common.{◌≡◌, ℕ, Bool, Some}
 use Rattle.evm_boost.specs.Settling.{IsSettling}
-use Rattle.law_ranks.specs.Mending.{with_task}
+use Rattle.evm_model.specs.Mending.{with_task}
 use Rattle.evm_model.specs.Mutexes.{boosts}
-use Rattle.law_ranks.specs.Boosts.{walk}
+use Rattle.evm_model.specs.Boosts.{walk}
 use Rattle.evm_boost.proofs.schedule.Schedule.walk_from.Given as goal
 
 -- the task where the walk is, if it goes on, is left to be mended beside the rest

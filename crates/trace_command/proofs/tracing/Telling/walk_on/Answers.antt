@@ -1,7 +1,7 @@
 use Rattle.std.proofs.Common.{◌≡◌, ◌++◌, [], ℕ, Option, None, inl, inr, length, refl, sym, ap, subst, ◌∙◌}
 use Rattle.std.specs.Prelude.{◌-◌, ◌^◌}
-use Rattle.run_marks.specs.Walks.{IsMarked, IsNext, Walked}
-use Rattle.run_marks.specs.declared.item.Item.{Item}
+use Rattle.run_walk.specs.Walks.{IsMarked, IsNext, Walked}
+use Rattle.run_walk.specs.declared.item.Item.{Item}
 use Rattle.trace_command.proofs.Told.{no_instants, on-ok}
 use Rattle.trace_command.specs.Instants.{event_instants, instants_in}
 use Rattle.trace_command.specs.Tellings.{TellsInstants, time_of}
@@ -24,7 +24,7 @@ pub returns-in-Ok-Some-clause-tells : goal.returns-in-Ok-Some-clause-tells
 returns-in-Ok-Some-clause-tells g c =
     λ empty changes.
     let told : instants_in c.item.new.list.items ≡ event_instants c.args.self.now.at c.next.new.found.items =
-    on-ok _ c.item.result c.item.ensures.instants (c.told.ensures.changes changes)
+    on-ok _ c.item.result c.item.ensures.instants (c.next_changes.ensures.changes changes)
     ∙ ap (λ l. l ++ event_instants c.args.self.now.at c.next.new.found.items) (ap instants_in empty ∙ no_instants) in
     record {
       item = c.in-Ok-Some.field-0;

@@ -1,9 +1,0 @@
-use Rattle.std.proofs.Common.{rules}
-use Rattle.evm_messages.specs.Diagnostic.{TookWords}
-use Rattle.evm_messages.proofs.Messages.{words_then}
-use Rattle.evm_messages.proofs.excerpt.write_quote.Goals as goal
-
-pub returns-in-Ok : goal.returns-in-Ok
-returns-in-Ok g c =
-    let took : TookWords g.E.Sink.takes c.args.errors.now c.write_escaped.new.errors = search rules in
-    words_then _ _ _ _ _ took c.write_words.ensures

@@ -1,9 +1,0 @@
-use Rattle.std.proofs.Common.{rules}
-use Rattle.evm_messages.specs.Diagnostic.{TookWords}
-use Rattle.evm_messages.proofs.Messages.{words_then}
-use Rattle.evm_messages.proofs.words.+write_hexadecimal.Goals as goal
-
-pub returns-in-Ok : goal.returns-in-Ok
-returns-in-Ok g t c =
-    let took : TookWords g.E.Sink.takes c.args.errors.now c.write_hexadecimal.new.errors = search rules in
-    words_then _ _ _ _ _ took c.write_words-in-Ok.ensures

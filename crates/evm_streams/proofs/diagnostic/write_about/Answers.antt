@@ -1,0 +1,15 @@
+use Rattle.std.proofs.Common.{rules, List, ℕ}
+use Rattle.evm_streams.specs.Writes.{Took, TookPrefix}
+use Rattle.evm_streams.specs.Diagnostic.{behind_place}
+use Rattle.evm_streams.proofs.Messages.{some_then, some_failed}
+use Rattle.evm_streams.proofs.diagnostic.write_about.Goals as goal
+
+pub returns-in-Ok : goal.returns-in-Ok
+returns-in-Ok g c =
+    let took : Took g.E.Sink.takes c.args.errors.now c.args.name.now c.write_all.new.sink = search rules in
+    some_then _ _ _ _ c.args.name.now (λ (words : List ℕ). behind_place words) _ took c.write_behind.ensures
+
+pub returns-in-Err : goal.returns-in-Err
+returns-in-Err g c =
+    let failed : TookPrefix g.E.Sink.takes c.args.errors.now c.args.name.now c.write_all.new.sink = search rules in
+    some_failed _ _ _ c.args.name.now (λ (words : List ℕ). behind_place words) failed

@@ -1,5 +1,0 @@
-use Rattle.gdb_packets.specs.Trusted.{trusted_heard}
-use Rattle.gdb_packets.proofs.ear.EarInterrupts.is_asked.Goals as goal
-
-pub returns : goal.returns
-returns g c = trusted_heard _ _

@@ -1,0 +1,3 @@
+pub mod Awake
+pub mod Eves
+pub mod Failures

@@ -1,7 +1,0 @@
-use Rattle.std.proofs.Common.{◌≡◌, ℕ, ◌<◌, false}
-use Rattle.std.specs.Prelude.{slice_get}
-use Rattle.hunt_schedules.specs.Making.{is_ready_on}
-use Rattle.hunt_schedules.proofs.waking.has_ready.Given as goal
-
-abbrev pub invariant-tasks : goal.invariant-tasks
-invariant-tasks l = (u : ℕ) → u < l.t → is_ready_on l.c (slice_get l.machine.board.parts.tasks u) ≡ false

@@ -1,7 +1,0 @@
-use Rattle.std.proofs.Common.{◌≡◌, ℕ, ◌<◌, true}
-use Rattle.std.specs.Prelude.{slice_get}
-use Rattle.hunt_schedules.specs.Making.{is_done}
-use Rattle.hunt_schedules.proofs.waking.is_over.Given as goal
-
-abbrev pub invariant-tasks : goal.invariant-tasks
-invariant-tasks l = (u : ℕ) → u < l.t → is_done l.lines l.machine (slice_get l.machine.board.parts.tasks u) ≡ true

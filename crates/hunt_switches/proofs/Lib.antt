@@ -1,5 +1,0 @@
-pub mod Searching
-pub mod Walking
-pub mod Covering
-pub mod Closing
-pub mod Going

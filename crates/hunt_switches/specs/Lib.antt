@@ -1,5 +1,0 @@
-pub mod Schedules
-pub mod Branches
-pub mod Walks
-pub mod Covering
-pub mod Searches

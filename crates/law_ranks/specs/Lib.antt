@@ -1,2 +1,0 @@
-pub mod Boosts
-pub mod Mending

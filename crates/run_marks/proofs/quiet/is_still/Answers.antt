@@ -1,6 +1,0 @@
-use Rattle.std.proofs.Common.{◌∙◌, sym}
-use Rattle.run_marks.proofs.Quietly.{still_steps-change}
-use Rattle.run_marks.proofs.quiet.is_still.Goals as goal
-
-pub returns : goal.returns
-returns g c = λ still. still_steps-change c.args.c c.args.machine.now c.rules.ensures.good (sym c.is_still_cpu.ensures ∙ still)

@@ -1,0 +1,4 @@
+pub mod Items
+pub mod Observers
+pub mod Quiet
+pub mod Walks

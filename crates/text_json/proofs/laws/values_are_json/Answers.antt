@@ -1,5 +1,0 @@
-use Rattle.text_json.proofs.Printed.{document-text}
-use Rattle.text_json.proofs.laws.values_are_json.Goals as goal
-
-pub returns : goal.returns
-returns c = document-text

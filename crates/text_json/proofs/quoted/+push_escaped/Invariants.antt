@@ -1,5 +1,0 @@
-use Rattle.std.proofs.Common.{length}
-use Rattle.text_json.proofs.quoted.+push_escaped.Given as goal
-
-abbrev pub decreases-push_escaped : goal.decreases-push_escaped
-decreases-push_escaped l = length l.content.now

@@ -1,0 +1,4 @@
+pub mod Draft
+pub mod Laws
+pub mod Text
+pub mod Xml

@@ -1,2 +1,0 @@
-pub mod Draft
-pub mod Xml

@@ -1,9 +1,0 @@
-use Rattle.std.proofs.Common.{ℕ, List, ◌++◌, take}
-use Rattle.trace_sites.specs.Labels.{label_lines}
-use Rattle.trace_sites.specs.Placed.{IsPending}
-use Rattle.trace_sites.proofs.writing.write_labels.Given as goal
-
--- the lines of the labels so far are held
-abbrev pub invariant-loop-label : goal.invariant-loop-label
-invariant-loop-label g l =
-    (start : g.row.W.Denot) (whole : List ℕ) → IsPending g.W.Sink.takes start whole l.fn.sink l.fn.text → IsPending g.W.Sink.takes start (whole ++ label_lines (take l.label-index l.labels)) l.sink l.text
