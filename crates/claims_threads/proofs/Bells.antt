@@ -1,7 +1,7 @@
 -- What checked receipts say of Bells.
-use Rattle.std.proofs.Common.{◌≡◌, ℕ, zero, suc, ◌+◌, ◌≤◌, List, [], ◌∷◌, ◌++◌, length, get_or, take, drop, refl, ap, ◌∙◌, arith, cond, Bool, true, false}
+use Rattle.std.proofs.Common.{◌≡◌, ℕ, zero, suc, ◌+◌, ◌≤◌, List, [], ◌∷◌, ◌++◌, length, get_or, take, drop, refl, sym, ap, ◌∙◌, arith, cond, Bool, true, false}
 use Rattle.std.proofs.lemmas.List.{take-append-drop}
-use Rattle.std.proofs.lemmas.List.Sums.{sum_by-cons}
+use Rattle.std.proofs.lemmas.List.Sums.{sum_by-append, sum_by-cons}
 use Rattle.std.specs.Prelude.{All, ◌==◌, ◌&&◌, count_by, not, slice_get, sum_by}
 use Rattle.evm_model.proofs.Counting.{kinds_add_up}
 use Rattle.evm_model.specs.Event.{Event}
@@ -112,6 +112,11 @@ each_since s n ports holds late all c l =
 -- .. and of the whole journal
 pub each_bell : (s : State) (ports : List PortValue) → PortsHold s ports (length ports) → in_ports is_bell ports ≡ count_by is_bell s.journal → (c l : ℕ) → in_ports (rings c l) ports ≡ count_by (rings c l) s.journal
 each_bell s ports holds all c l = each_since s 0 ports holds (λ i d lt. omega arith) all c l
+
+-- the first n events, and the others
+pub first_and_others : (such : Event → Bool) (n : ℕ) (events : List Event) → count_by such events ≡ count_by such (take n events) + count_by such (drop n events)
+first_and_others such n events =
+    sym (ap (count_by such) (take-append-drop n events)) ∙ sum_by-append (λ e. cond (such e) 1 0) (take n events) (drop n events)
 
 -- the Bells behind those that a journal begins with
 pub bells_since : (base : EventCounts) (journal : List Event) (made : ℕ) → BeginsWith base journal → count_by is_bell journal ≡ base.bells + made → count_by is_bell (events_since base journal) ≡ made
