@@ -27,7 +27,7 @@ pub record MakesTurn (start : State) (cpus : ℕ) (old new : WorkerValue) : Type
   pub done : Committed
   pub taken : new.taker.taken ≡ old.taker.taken ++ (old.cpu, word) ∷ []
   pub bells : MakesBells start cpus old.cpu (Ok word) old.port delivered
-  pub speculates : IsAhead old.ahead.next old.ahead.cache burst × IsUsed old.ahead used
+  pub speculates : IsAhead old.ahead.next old.ahead.cache burst × IsUsed burst old.ahead used
   pub commits : MakesSteps start old.cpu burst (Ok done) delivered new.port
   pub keeps : Remembers done used new.ahead
   pub same : (new.cpu ≡ old.cpu) × (new.taker.bells ≡ old.taker.bells)
@@ -40,7 +40,7 @@ LacksDeliver start cpus old new why = MakesBells start cpus old.cpu (Err why) ol
 abbrev pub LacksCommit : State → ℕ → WorkerValue → WorkerValue → Refusal → Type 0
 LacksCommit start cpus old new why =
     (word : ℕ) × (delivered : PortValue) × (burst : Speculated) × (new.taker.taken ≡ old.taker.taken ++ (old.cpu, word) ∷ [])
-    × MakesBells start cpus old.cpu (Ok word) old.port delivered × IsAhead old.ahead.next old.ahead.cache burst × IsUsed old.ahead new.ahead
+    × MakesBells start cpus old.cpu (Ok word) old.port delivered × IsAhead old.ahead.next old.ahead.cache burst × IsUsed burst old.ahead new.ahead
     × MakesSteps start old.cpu burst (Err why) delivered new.port
 
 -- a turn that was refused: its deliver or its commit
