@@ -105,6 +105,11 @@ abbrev pub marked_short : Refusal → PortValue → PortValue
 marked_short Full p = record p { short = true }
 marked_short _ p = p
 
+-- a refusal as Full has left one of the marks
+abbrev pub IsMarked : Refusal → PortValue → Type 0
+IsMarked Full p = (p.full ≡ true) ⊎ (p.short ≡ true)
+IsMarked _ p = Unit {0}
+
 -- ---- what a call found under the lock
 
 -- a machine that is its journal's replay from start, and of which this holds

@@ -7,7 +7,7 @@ use Rattle.evm_model.specs.State.{State}
 use Rattle.evm_model.specs.Refusals.{number_of}
 use Rattle.evm_model.specs.declared.refusal.Refusal.{Refusal}
 use Rattle.evm_shared.specs.Lookaheads.{IsAhead, IsUsed, Remembers, LookaheadValue}
-use Rattle.evm_shared.specs.Ports.{MakesBells, MakesSteps, PortValue}
+use Rattle.evm_shared.specs.Ports.{IsMarked, MakesBells, MakesSteps, PortValue, RefusesEither}
 
 -- its processor, its port and its taker, what it does ahead, and why its last run ended before all its turns
 pub record WorkerValue : Type 0 where
@@ -52,10 +52,11 @@ abbrev pub MakesTurns : State → ℕ → ℕ → WorkerValue → WorkerValue �
 MakesTurns start cpus zero old new = new ≡ (record old { refused = None })
 MakesTurns start cpus (suc n) old new = (between : WorkerValue) × MakesTurns start cpus n old between × MakesTurn start cpus between new
 
--- fewer than some turns, and then one that was refused
+-- fewer than some turns, each with a Step at least, and then one that was refused: as Full, which left a mark, or since there is no such processor
 abbrev pub StopsTurns : State → ℕ → ℕ → WorkerValue → WorkerValue → Refusal → Type 0
 StopsTurns start cpus turns old new why =
-    (made : ℕ) × (between : WorkerValue) × (made < turns) × MakesTurns start cpus made old between × RefusesTurn start cpus between new why
+    (made : ℕ) × (between : WorkerValue) × (made < turns) × MakesTurns start cpus made old between × (old.port.share.steps + made ≤ new.port.share.steps)
+    × RefusesTurn start cpus between new why × RefusesEither start cpus old.cpu why × IsMarked why new.port
 
 -- after a run of some turns: all were made, each with a Step at least, or the next was refused
 abbrev pub HasTurned : State → ℕ → ℕ → WorkerValue → WorkerValue → Type 0

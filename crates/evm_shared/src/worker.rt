@@ -1,5 +1,6 @@
 ghost use Rattle.std.specs.Prelude.{◌≡◌, ℕ, ◌+◌, ◌<◌, ◌≤◌, All, IfErr, IfOk, MatchResult, length, slice_index_or, Option};
 ghost use Rattle.evm_shared.specs.Lookaheads.{nothing_ahead};
+ghost use Rattle.evm_shared.specs.Ports.{RefusesEither};
 ghost use Rattle.evm_shared.specs.Workers.{HasTurned, MakesTurn, RefusesTurn, WorkerValue, least_refusal, lesser_refusal};
 
 use crate::locked::Origin;
@@ -119,6 +120,7 @@ impl<S: Ledger, B: Ledger, T: Ledger> Worker<S, B, T> {
         requires { self.old.taker.bells ≡ bells.now.id }
         ensures same { (self.new.cpu ≡ self.old.cpu) × (self.new.taker.bells ≡ self.old.taker.bells) × (self.new.refused ≡ self.old.refused) }
         ensures refused { IfErr result (λ why. RefusesTurn O.start bells.now.cpus self.old self.new why) }
+        ensures reason { IfErr result (λ why. RefusesEither O.start bells.now.cpus self.old.cpu why) }
         ensures steps { IfOk result (λ _. self.old.port.share.steps + 1 ≤ self.new.port.share.steps) }
         ensures made { IfOk result (λ _. MakesTurn O.start bells.now.cpus self.old self.new) }
     {

@@ -1,11 +1,22 @@
 use Rattle.std.proofs.Common.{inl, inr, refl}
 use Rattle.std.proofs.lemmas.Result.{err_from_is_err_and}
+use Rattle.evm_shared.proofs.Turns.{lacks_either}
 use Rattle.evm_shared.proofs.worker.Worker.turn.Goals as goal
 
 pub returns-in_err-deliver-clause-refused : goal.returns-in_err-deliver-clause-refused
 returns-in_err-deliver-clause-refused g c =
     let p = err_from_is_err_and c.from_residual.result c.from_residual.ensures.1 in
     rw (p.1, p.2, ← c.self.view_is) (inl (c.in_err-deliver.ensures.call, c.in_err-deliver.ensures.taken, refl))
+
+pub returns-in_err-deliver-clause-reason : goal.returns-in_err-deliver-clause-reason
+returns-in_err-deliver-clause-reason g c =
+    let p = err_from_is_err_and c.from_residual.result c.from_residual.ensures.1 in
+    rw (p.1, p.2, ← c.self.view_is) c.in_err-deliver.ensures.refused
+
+pub returns-in_err-commit_into-clause-reason : goal.returns-in_err-commit_into-clause-reason
+returns-in_err-commit_into-clause-reason g c =
+    let p = err_from_is_err_and c.from_residual-in_err-commit_into.result c.from_residual-in_err-commit_into.ensures.1 in
+    rw (p.1, p.2, ← c.self.view_is) (lacks_either g.O.Origin.start c.args.bells.now.cpus c.self.inside.cpu _ c.in_err-commit_into.ensures.refused)
 
 pub returns-in_err-commit_into-clause-refused : goal.returns-in_err-commit_into-clause-refused
 returns-in_err-commit_into-clause-refused g c =

@@ -18,4 +18,4 @@ returns-in-Err g c =
     let i = c.loop-turn.invariant in
     let same = c.turn.ensures.same in
     run_stops g.O.Origin.start c.args.bells.now.cpus c.args.turns c.loop-turn.turn c.args.self.now c.loop-turn.self c.turn.new.self c.stop.new.self c.in-Err.why i.cpu i.bells same.0 same.1
-    c.loop-turn-test.true i.made c.in-Err.ensures.refused c.stop.ensures
+    c.loop-turn-test.true i.made i.steps c.in-Err.ensures.refused c.in-Err.ensures.reason c.stop.ensures
