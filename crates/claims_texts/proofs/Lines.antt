@@ -22,9 +22,9 @@ use Rattle.evm_serve.specs.RunOptions.{RunOptions, image_options}
 use Rattle.evm_serve.specs.Script.{LineOutcome, Goes, Ends, Report, after_steps, behind, boot_outcome, booted_outcome, event_outcome, line_outcome, lines_report, run_on, script_report, unbooted_outcome, view_outcome}
 use Rattle.evm_serve.specs.declared.ending.Verdict.TheVariants.{Done}
 use Rattle.claims_texts.specs.Scripts as runs
-use Rattle.sh_session.specs.Sitting.{Sitting}
-use Rattle.sh_session.specs.Scripted.{IsScripted, after_event, after_line, after_lines, after_read, after_view, booted_by, with_state, script_of, loaded_state, script_machine, unless_refused}
-use Rattle.sh_session.proofs.Texts.{text_is}
+use Rattle.evm_serve.specs.Sitting.{Sitting}
+use Rattle.evm_serve.specs.Scripted.{IsScripted, after_event, after_line, after_lines, after_read, after_view, booted_by, with_state, script_of, loaded_state, script_machine, unless_refused}
+use Rattle.evm_serve.proofs.SessionTexts.{text_is}
 use Rattle.claims_texts.specs.Sessions.{IsRunAgain}
 
 -- the outcome of a line: it goes on with a machine

@@ -6,8 +6,8 @@ use Rattle.claims_texts.specs.Scripts.{machine_left}
 use Rattle.evm_serve.specs.RunOptions.{image_options}
 use Rattle.evm_serve.specs.Script.{script_report}
 use Rattle.evm_serve.specs.declared.ending.Verdict.TheVariants.{Done}
-use Rattle.sh_session.specs.Sitting.{Sitting}
-use Rattle.sh_session.specs.Scripted.{IsScripted, script_of}
+use Rattle.evm_serve.specs.Sitting.{Sitting}
+use Rattle.evm_serve.specs.Scripted.{IsScripted, script_of}
 
 abbrev pub IsRunAgain : Type 0
 IsRunAgain = (devices : List Attached) (image : Contents) (s : Sitting) → IsScripted devices image s

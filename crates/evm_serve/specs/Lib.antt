@@ -3,13 +3,20 @@ pub mod FaultLines
 pub mod Imaging
 pub mod Known
 pub mod Memory
+pub mod Noted
+pub mod Notes
+pub mod Noting
 pub mod Playing
 pub mod ReplayLaws
 pub mod Replaying
 pub mod RunNotes
 pub mod RunOptions
 pub mod Script
+pub mod Scripted
+pub mod ScriptedMachine
 pub mod Serving
+pub mod SessionLaws
+pub mod Sitting
 pub mod Starting
 pub use Rattle.evm_elf.specs.evm_asm as evm_asm
 pub use Rattle.evm_elf.specs.evm_asm_lexer as evm_asm_lexer

@@ -1,6 +1,7 @@
-//! Laws of replays, and of runs over known bytes: each is a contract that nothing has to be done for.
+//! Laws of replays, of sessions, and of runs over known bytes: each is a contract that nothing has to be done for.
 
 ghost use Rattle.evm_serve.specs.ReplayLaws.{RefusedOnItsLine, ReplaysSaved};
+ghost use Rattle.evm_serve.specs.SessionLaws.{TextIsScript};
 ghost use Rattle.evm_serve.specs.Known.{ServesKnown, ServesKnownText, ImportsKnownFile, AssemblesIntoKnown};
 
 use evm_dev::Device;
@@ -18,6 +19,11 @@ pub fn replays_saved<D: Device>(machine: &Machine<D>)
 {
     machine.rules();
 }
+
+/// The text of a session's lines, each with a newline, is a script of these lines: it leaves the session's machine.
+pub fn text_is_script()
+    ensures { TextIsScript }
+{}
 
 /// A run over a reader and a writer of std whose bytes are known, as a slice's and a `Vec`'s are, is the run of these
 /// bytes: what it writes stands behind what the writer held.

@@ -1,1 +1,1 @@
-pub use Rattle.sh_session.specs as sh_session
+pub use Rattle.evm_serve.specs as evm_serve

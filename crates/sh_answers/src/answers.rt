@@ -6,7 +6,7 @@ use crate::page::Page;
 use evm_exec::Hart;
 use evm_model::{TaskState, Wait};
 use evm_room::NoMemory;
-use sh_session::{AnyDevice, LastCall, Machine};
+use evm_serve::{AnyDevice, LastCall, Machine};
 use text_symbols::{CodeSpot, Names, ObjectKind, SourceLine};
 
 /// The word of ECALL.

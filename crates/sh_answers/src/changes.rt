@@ -8,7 +8,7 @@ use crate::snapshot::{Snapshot, TaskShot};
 use evm_exec::Hart;
 use evm_model::Processor;
 use evm_room::NoMemory;
-use sh_session::{AnyDevice, Machine};
+use evm_serve::{AnyDevice, Machine};
 use text_symbols::{Names, ObjectKind};
 
 fn put_task(

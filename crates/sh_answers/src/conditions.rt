@@ -5,7 +5,7 @@ use crate::errno::errno_name;
 use crate::numbers::{address_of, number_of};
 use crate::words::split_word;
 use evm_model::TaskState;
-use sh_session::{AnyDevice, Machine};
+use evm_serve::{AnyDevice, Machine};
 use text_symbols::Names;
 
 /// A state of a task, in one word.

@@ -5,7 +5,7 @@ use crate::page::Page;
 use evm_exec::Hart;
 use evm_model::TaskState;
 use evm_room::NoMemory;
-use sh_session::{AnyDevice, Machine};
+use evm_serve::{AnyDevice, Machine};
 use text_symbols::{CodeSpot, Names, ObjectKind, SourceLine, Standing};
 
 /// Where RAM begins.

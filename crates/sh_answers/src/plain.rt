@@ -6,12 +6,12 @@ use crate::registers::register_number;
 use crate::words::split_word;
 use evm_ram::Image;
 use evm_room::NoMemory;
-use evm_streams::{Diagnostic, LineFault, report_line};
-use evm_text::cut_line;
-use sh_session::{
+use evm_serve::{
     InputFault, Line, PlainLine, ScriptStop, event_cpu, fault_detail, read_line, script_text,
     view_cpu,
 };
+use evm_streams::{Diagnostic, LineFault, report_line};
+use evm_text::cut_line;
 use std::alloc::Global;
 use text_symbols::Names;
 

@@ -4,7 +4,7 @@ use crate::numbers::{address_of, number_of};
 use crate::page::Page;
 use crate::words::split_word;
 use evm_room::NoMemory;
-use sh_session::{AnyDevice, Machine};
+use evm_serve::{AnyDevice, Machine};
 use text_symbols::Names;
 
 /// Numbers of RAM: where they are, how many bytes each has, whether they have a sign, and how many there are.

@@ -3,7 +3,7 @@
 use evm_exec::Hart;
 use evm_model::{Processor, TaskState};
 use evm_room::NoMemory;
-use sh_session::{AnyDevice, Machine};
+use evm_serve::{AnyDevice, Machine};
 use std::alloc::Global;
 
 /// A task.

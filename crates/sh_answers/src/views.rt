@@ -7,7 +7,7 @@ use evm_exec::Hart;
 use evm_lines::{LINES, LineSet};
 use evm_model::{Notice, NoticeKind, StageLog, TaskState};
 use evm_room::NoMemory;
-use sh_session::{AnyDevice, LastCall, Machine, Notes, View};
+use evm_serve::{AnyDevice, LastCall, Machine, Notes, View};
 use text_symbols::{Names, ObjectKind};
 
 fn put_lines(page: &mut Page, words: &str, lines: LineSet) -> Result<(), NoMemory> {

@@ -1,0 +1,106 @@
+//! A scripted machine: one that only lines of a script boot and change.
+
+ghost use Rattle.std.specs.Prelude.{◌≡◌, OnOk, OnErr, None};
+ghost use Rattle.std.specs.String.{string_bytes};
+ghost use Rattle.evm_serve.specs.ScriptedMachine.{IsDoneBy, LeavesMachine, NotedFrom};
+
+use crate::laws::text_is_script;
+use crate::notes::Notes;
+use crate::plain::PlainLine;
+use crate::session::Session;
+use crate::stop::ScriptStop;
+use evm_devs::{AnyDevice, program_devices};
+use evm_diagnostics::Machine;
+use evm_ram::Image;
+use evm_room::NoMemory;
+use std::alloc::Global;
+use std::marker::Model;
+
+/// An image, and the machine that lines of a script have made with it, if one has booted it. Nothing else changes the
+/// machine: the lines that were done, as a script, leave it.
+#[derive(Drop)]
+pub struct ScriptedMachine<'a> {
+    image: &'a Image,
+    session: Option<Session<AnyDevice>>,
+}
+
+impl<'a> Model for ScriptedMachine<'a> {
+    ghost use Rattle.evm_serve.specs.ScriptedMachine.{ScriptedMachineState, IsScriptedIn};
+
+    ghost Value = { ScriptedMachineState };
+
+    ghost view = { λ b. record { image = b.image.now; sitting = b.session } };
+
+    ghost invariant = { λ b. IsScriptedIn b.image.now b.session };
+}
+
+impl<'a> ScriptedMachine<'a> {
+    /// One without a machine, for an image.
+    pub fn new(image: &'a Image) -> Self
+        ensures { result ≡ record { image = image.now; sitting = None } }
+    {
+        ScriptedMachine {
+            image,
+            session: None,
+        }
+    }
+
+    /// Does a line of a script, without its newline, and leaves the text of its view in `text`. The first line boots the machine. The
+    /// Steps of the line and the calls of tasks are noted.
+    ///
+    /// # Errors
+    ///
+    /// Why the line is not done. Nothing has changed.
+    pub fn run(
+        &mut self,
+        alloc: Global,
+        line: &[u8],
+        text: &mut String,
+        notes: &mut Notes,
+    ) -> Result<(), ScriptStop>
+        ensures done { OnOk result (IsDoneBy line.now self.old self.new (string_bytes text.new)) }
+        ensures noted { OnOk result (NotedFrom self.old.sitting line.now notes.old notes.new) }
+        ensures refused { OnErr result (self.new ≡ self.old) }
+    {
+        text.clear();
+        if let Some(session) = &mut self.session {
+            return session.run(alloc, line, text, notes);
+        }
+        notes.begin();
+        let Ok(devices) = program_devices(alloc) else {
+            return Err(ScriptStop::NoMemory);
+        };
+        match Session::boot(alloc, self.image, devices, line) {
+            Ok(session) => {
+                self.session = Some(session);
+                Ok(())
+            }
+            Err(stop) => Err(stop),
+        }
+    }
+
+    /// The machine, if it is booted.
+    pub fn machine(&self) -> Option<&Machine<AnyDevice>> {
+        match &self.session {
+            None => None,
+            Some(session) => Some(session.machine()),
+        }
+    }
+
+    /// The lines that were done, the boot line first.
+    pub fn lines(&self) -> &[PlainLine] {
+        match &self.session {
+            None => &[],
+            Some(session) => session.lines(),
+        }
+    }
+
+    /// The lines that were done, each with a newline, are a script that leaves the machine.
+    #[tactic(auto, using(crate::proofs::SessionTexts::leaves))]
+    pub fn rules(&self)
+        ensures { LeavesMachine self.now.image self.now.sitting }
+    {
+        let _ = &self.image;
+        text_is_script();
+    }
+}

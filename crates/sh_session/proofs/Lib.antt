@@ -1,4 +1,0 @@
-pub mod Behind
-pub mod Fitting
-pub mod OneByOne
-pub mod Texts

@@ -1,7 +1,0 @@
--- the text so far, and that of the lines from here on
-use Rattle.std.proofs.Common.{◌≡◌, ◌++◌, drop}
-use Rattle.sh_session.specs.Scripted.{script_of}
-use Rattle.sh_session.proofs.script.script_text.Given as goal
-
-abbrev pub invariant-loop-line : goal.invariant-loop-line
-invariant-loop-line l = script_of l.lines ≡ l.text.items ++ script_of (drop l.line-index l.lines)

@@ -1,9 +1,0 @@
--- What is noted as lines are done.
-use Rattle.std.specs.Prelude.{ℕ, List, Option}
-use Rattle.sh_session.specs.declared.notes.LastCall.{LastCall}
-
-pub record Noted : Type 0 where
-  -- how many Steps of the last line did nothing
-  pub swallowed : ℕ
-  -- the last call of each task
-  pub calls : List (Option LastCall)
