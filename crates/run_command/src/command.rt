@@ -5,29 +5,23 @@ ghost use Rattle.evm_model.specs.declared.boot.Boot.{Boot};
 ghost use Rattle.run_schedule.specs.Runs.{HasRun};
 ghost use Rattle.run_command.specs.Status.{Succeeds};
 
+use crate::PROGRAM;
+use crate::halting::halted;
+use crate::program::{NamedImage, Script, Way};
 use crate::telling::put_finished;
 use crate::words::{Course, Job, Until, WordFault, beats_of, course_of, job_of};
 use clap::ArgMatches;
 use evm_host::{
-    Ending, FAILED, Input, Message, Sink, System, USAGE, Verdict, World, ended, ended_with,
-    failed_write_message, image_at, memory_refused, names_at, not_created, not_opened, not_read,
-    read_all, report, write_all,
+    FAILED, Message, Sink, System, USAGE, World, failed_write_message, image_at, memory_refused,
+    names_at, not_created, not_opened, not_read, read_all, report, write_all,
 };
 use evm_ram::Image;
 use run_schedule::{
-    Beat, BeginFault, Boot, CAPACITY_LIMIT, FinishedRun, LineStop, RunEnd, RunFault, RunPlan,
-    SIZE_LIMIT, ScriptFault, run, run_scripted,
+    Beat, Boot, CAPACITY_LIMIT, FinishedRun, RunEnd, RunPlan, SIZE_LIMIT, ScriptFault, run,
+    run_scripted,
 };
-use sh_answers::{Names, Page, ScriptStop, script_fault, write_journal};
+use sh_answers::{Names, Page, write_journal};
 use std::alloc::Global;
-
-/// The name in front of messages that are about no file.
-const PROGRAM: &str = "vardozek run";
-
-const OUTPUT: &str = "standard output";
-
-/// The status where the file is no image that can be loaded.
-const NO_IMAGE: u8 = 3;
 
 /// Where RAM begins.
 const BASE: u64 = 0x8000_0000;
@@ -37,15 +31,6 @@ const RAM_END: &str = "ram_end";
 
 /// The symbol of the names that a program of the kit's library keeps.
 const NAMES_TABLE: &str = "kit_names";
-
-/// How a program is to be run.
-#[derive(Clone, Copy)]
-enum Way<'a> {
-    /// By a schedule.
-    Plan(Boot, RunPlan<'a>),
-    /// By the script of a file.
-    Script(&'a str, &'a [u8]),
-}
 
 // Reports words that are no job.
 fn blame<S: System>(fault: WordFault, world: &mut World<S>) -> u8 {
@@ -88,83 +73,6 @@ fn boot_of(course: &Course<'_>, names: &Names) -> Boot {
     Boot {
         watchdog: course.watchdog,
         ..Boot::newest(course.cpus, ram, capacity)
-    }
-}
-
-// Reports why a run by a schedule has no end.
-fn stopped<S: System>(path: &str, stop: RunFault, world: &mut World<S>) -> u8 {
-    match stop {
-        RunFault::NoMemory | RunFault::NoMachine(BeginFault::NoMemory) => {
-            memory_refused(PROGRAM, world)
-        }
-        RunFault::WriteFailed(fault) => {
-            ended(OUTPUT, &Ending::WriteFailed(fault), &mut world.errors)
-        }
-        RunFault::NoMachine(BeginFault::PastRam) => {
-            let message = Message::Plain("memory of a segment lies past RAM: see --ram");
-            report(path, message, &mut world.errors);
-            NO_IMAGE
-        }
-        RunFault::NoMachine(BeginFault::BadSize) => {
-            let message = Message::Plain("--ram is no multiple of 4096");
-            report(PROGRAM, message, &mut world.errors);
-            USAGE
-        }
-    }
-}
-
-fn stop_of(stop: LineStop) -> ScriptStop {
-    match stop {
-        LineStop::Misspelt => ScriptStop::Misspelt,
-        LineStop::BootedAgain => ScriptStop::BootedAgain,
-        LineStop::NotBooted => ScriptStop::NotBooted,
-        LineStop::Refused(refusal) => ScriptStop::Refused(refusal),
-    }
-}
-
-// Reports why a line of a script is not done.
-fn line_stopped<S: System>(
-    image: &Image,
-    path: &str,
-    script: &[u8],
-    number: u64,
-    stop: LineStop,
-    world: &mut World<S>,
-) -> u8 {
-    match script_fault(script, number, stop_of(stop)) {
-        None => memory_refused(PROGRAM, world),
-        Some(fault) => {
-            let input = Input::Lines(Some(image), script);
-            let ending = Ending::Complete(Verdict::Refused(fault));
-            ended_with(input, path, &ending, &mut world.errors)
-        }
-    }
-}
-
-// Reports why a run has no end.
-fn halted<S: System>(
-    path: &str,
-    image: &Image,
-    way: Way<'_>,
-    stop: ScriptFault,
-    world: &mut World<S>,
-) -> u8 {
-    let Way::Script(script_path, script) = way else {
-        return match stop {
-            ScriptFault::Run(fault) => stopped(path, fault, world),
-            _ => FAILED,
-        };
-    };
-    match stop {
-        ScriptFault::Run(fault) => stopped(path, fault, world),
-        ScriptFault::NoBoot => {
-            let message = Message::Plain("no boot line, so nothing is done");
-            report(script_path, message, &mut world.errors);
-            1
-        }
-        ScriptFault::Line(number, stop) => {
-            line_stopped(image, script_path, script, number, stop, world)
-        }
     }
 }
 
@@ -248,7 +156,7 @@ fn run_in<W: Sink, V: Sink>(
     ensures { IfOk result (λ done. (boot : Boot) × HasRun W.takes image.now boot output.old done.ending done.machine output.new) }
 {
     match way {
-        Way::Script(_, script) => run_scripted(alloc, image, script, output, views),
+        Way::Script(script) => run_scripted(alloc, image, script.text, output, views),
         Way::Plan(boot, plan) => match run(alloc, image, &boot, plan, output) {
             Ok(done) => Ok(done),
             Err(fault) => Err(ScriptFault::Run(fault)),
@@ -259,21 +167,20 @@ fn run_in<W: Sink, V: Sink>(
 // Runs an image, says how the run has ended and writes its journal.
 fn run_image<S: System>(
     alloc: Global,
-    path: &str,
-    image: &Image,
-    names: &Names,
+    program: &NamedImage<'_>,
     way: Way<'_>,
     out: Option<Out<'_, S::Created>>,
     world: &mut World<S>,
 ) -> u8
-    ensures { Succeeds S.Output.takes image.now result world.old.output world.new.output }
+    ensures { Succeeds S.Output.takes program.now.image.now result world.old.output world.new.output }
 {
+    let image = program.image;
     let done = match run_in(alloc, image, way, &mut world.output, &mut world.errors) {
         Ok(done) => done,
-        Err(stop) => return halted(path, image, way, stop, world).max(1),
+        Err(stop) => return halted(program, way, stop, world).max(1),
     };
     let mut status = verdict(done.ending);
-    status = status.max(tell(alloc, names, &done, &mut world.errors));
+    status = status.max(tell(alloc, program.names, &done, &mut world.errors));
     if let Some(mut out) = out {
         let saved = save(alloc, out.path, &mut out.file, &done, &mut world.errors);
         status = status.max(saved);
@@ -307,7 +214,7 @@ fn script_of<S: System>(
 
 fn way_of<'a>(course: &Course<'a>, names: &Names, beats: &'a [Beat], script: &'a [u8]) -> Way<'a> {
     if let Some(path) = course.script {
-        return Way::Script(path, script);
+        return Way::Script(Script { path, text: script });
     }
     let plan = RunPlan {
         beats,
@@ -330,7 +237,12 @@ fn do_job<S: System>(
     let script = script_of(alloc, &job.course, world)?;
     let out = journal_of(job, world)?;
     let way = way_of(&job.course, &names, beats, script.as_slice());
-    Ok(run_image(alloc, job.image, &image, &names, way, out, world))
+    let program = NamedImage {
+        path: job.image,
+        image: &image,
+        names: &names,
+    };
+    Ok(run_image(alloc, &program, way, out, world))
 }
 
 /// `run`: runs a program as the words ask for, and returns the exit status.
@@ -351,18 +263,16 @@ pub fn run_for<S: System>(alloc: Global, words: &ArgMatches<'_>, world: &mut Wor
 // The journal of a run, of which standard error says how it ended.
 fn run_journal<S: System, W: Sink>(
     alloc: Global,
-    path: &str,
-    image: &Image,
-    names: &Names,
+    program: &NamedImage<'_>,
     way: Way<'_>,
     output: &mut W,
     world: &mut World<S>,
 ) -> Result<String, u8> {
-    let done = match run_in(alloc, image, way, output, &mut world.errors) {
+    let done = match run_in(alloc, program.image, way, output, &mut world.errors) {
         Ok(done) => done,
-        Err(stop) => return Err(halted(path, image, way, stop, world).max(1)),
+        Err(stop) => return Err(halted(program, way, stop, world).max(1)),
     };
-    match tell(alloc, names, &done, &mut world.errors) {
+    match tell(alloc, program.names, &done, &mut world.errors) {
         0 => {}
         status => return Err(status),
     }
@@ -372,7 +282,7 @@ fn run_journal<S: System, W: Sink>(
     }
 }
 
-/// The journal of a run of an image of a file, as the words ask for it that `run` takes. Standard error says how the run ended; what the
+/// The journal of a run of a program, as the words ask for it that `run` takes. Standard error says how the run ended; what the
 /// program puts to its consoles is left out.
 ///
 /// # Errors
@@ -381,9 +291,7 @@ fn run_journal<S: System, W: Sink>(
 pub fn journal_for<S: System>(
     alloc: Global,
     words: &ArgMatches<'_>,
-    path: &str,
-    image: &Image,
-    names: &Names,
+    program: &NamedImage<'_>,
     world: &mut World<S>,
 ) -> Result<String, u8> {
     let course = match course_of(words) {
@@ -395,7 +303,7 @@ pub fn journal_for<S: System>(
         Err(fault) => return Err(blame(fault, world)),
     };
     let script = script_of(alloc, &course, world)?;
-    let way = way_of(&course, names, &beats, script.as_slice());
+    let way = way_of(&course, program.names, &beats, script.as_slice());
     let mut left_out = Vec::new(alloc);
-    run_journal(alloc, path, image, names, way, &mut left_out, world)
+    run_journal(alloc, program, way, &mut left_out, world)
 }

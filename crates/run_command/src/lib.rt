@@ -3,8 +3,14 @@
 #![tactic(auto)]
 
 mod command;
+mod halting;
 mod machine;
+mod program;
 mod telling;
 mod words;
 
 pub use command::{journal_for, run_for};
+pub use program::NamedImage;
+
+/// The name in front of messages that are about no file.
+const PROGRAM: &str = "vardozek run";

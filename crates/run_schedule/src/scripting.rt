@@ -45,6 +45,13 @@ pub enum ScriptFault {
     Run(RunFault),
 }
 
+/// A line of a script, and its number.
+#[derive(Clone, Copy, Debug)]
+struct NumberedLine<'a> {
+    number: u64,
+    text: &'a [u8],
+}
+
 /// A script that is left, and the number of its first line.
 #[derive(Clone, Copy, Debug)]
 struct Rest<'a> {
@@ -96,108 +103,113 @@ fn machine_of(
     }
 }
 
-// One event of a line.
-fn make_one<W: Sink>(
-    machine: &mut Machine<AnyDevice>,
-    event: Event<&Block>,
-    number: u64,
-    printer: &mut Printer,
-    output: &mut W,
-) -> Result<(), ScriptFault>
-    ensures { (start : W) (first : State) → HasToldSome W.takes start first machine.old output.old printer.old → OnOk result (HasToldSome W.takes start first machine.new output.new printer.new) }
-{
-    let ended = match advance(machine, event, printer) {
-        Ok(ended) => ended,
-        Err(NoMemory) => return Err(ScriptFault::Run(RunFault::NoMemory)),
-    };
-    if let Some(RunEnd::Refused(refusal)) = ended {
-        return Err(ScriptFault::Line(number, LineStop::Refused(refusal)));
-    }
-    match tell_in_time(event, printer, output) {
-        Ok(()) => Ok(()),
-        Err(fault) => Err(ScriptFault::Run(fault)),
-    }
+/// A run by a script: its machine, and what that has put.
+#[derive(Drop)]
+struct ScriptRun {
+    machine: Machine<AnyDevice>,
+    printer: Printer,
 }
 
-// So many steps of a processor.
-fn make_steps<W: Sink>(
-    machine: &mut Machine<AnyDevice>,
-    c: u8,
-    count: u32,
-    number: u64,
-    printer: &mut Printer,
-    output: &mut W,
-) -> Result<(), ScriptFault>
-    ensures { (start : W) (first : State) → HasToldSome W.takes start first machine.old output.old printer.old → OnOk result (HasToldSome W.takes start first machine.new output.new printer.new) }
-{
-    'steps: for _ in 0..count {
-        make_one(machine, Event::Step(c), number, printer, output)?;
-    }
-    Ok(())
-}
-
-// The text of a view goes to its sink.
-fn show<V: Sink>(
-    alloc: Global,
-    machine: &Machine<AnyDevice>,
-    look: &View,
-    number: u64,
-    views: &mut V,
-) -> Result<(), ScriptFault> {
-    let text = match view(alloc, machine, look) {
-        Ok(text) => text,
-        Err(ViewRefusal::NoMemory) => return Err(ScriptFault::Run(RunFault::NoMemory)),
-        Err(ViewRefusal::Refused(refusal)) => {
+impl ScriptRun {
+    // One event of a line.
+    fn make_one<W: Sink>(
+        &mut self,
+        event: Event<&Block>,
+        number: u64,
+        output: &mut W,
+    ) -> Result<(), ScriptFault>
+        ensures { (start : W) (first : State) → HasToldSome W.takes start first self.old.machine output.old self.old.printer → OnOk result (HasToldSome W.takes start first self.new.machine output.new self.new.printer) }
+    {
+        let ended = match advance(&mut self.machine, event, &mut self.printer) {
+            Ok(ended) => ended,
+            Err(NoMemory) => return Err(ScriptFault::Run(RunFault::NoMemory)),
+        };
+        if let Some(RunEnd::Refused(refusal)) = ended {
             return Err(ScriptFault::Line(number, LineStop::Refused(refusal)));
         }
-    };
-    match write_all(views, text.as_bytes()) {
-        Ok(()) => Ok(()),
-        Err(fault) => Err(ScriptFault::Run(RunFault::WriteFailed(fault))),
+        match tell_in_time(event, &mut self.printer, output) {
+            Ok(()) => Ok(()),
+            Err(fault) => Err(ScriptFault::Run(fault)),
+        }
     }
-}
 
-// What a line asks for.
-fn do_line<W: Sink, V: Sink>(
-    alloc: Global,
-    machine: &mut Machine<AnyDevice>,
-    number: u64,
-    line: &[u8],
-    printer: &mut Printer,
-    output: &mut W,
-    views: &mut V,
-) -> Result<(), ScriptFault>
-    ensures { (start : W) (first : State) → HasToldSome W.takes start first machine.old output.old printer.old → OnOk result (HasToldSome W.takes start first machine.new output.new printer.new) }
-{
-    match read_line(line) {
-        Ok(Line::Blank) => Ok(()),
-        Ok(Line::Boot(_)) => Err(ScriptFault::Line(number, LineStop::BootedAgain)),
-        Ok(Line::Steps(c, count)) => make_steps(machine, c, count, number, printer, output),
-        Ok(Line::One(event)) => make_one(machine, event.lend(), number, printer, output),
-        Ok(Line::Look(look)) => show(alloc, machine, &look, number, views),
-        Err(_) => Err(ScriptFault::Line(number, LineStop::Misspelt)),
+    // So many steps of a processor.
+    fn make_steps<W: Sink>(
+        &mut self,
+        c: u8,
+        count: u32,
+        number: u64,
+        output: &mut W,
+    ) -> Result<(), ScriptFault>
+        ensures { (start : W) (first : State) → HasToldSome W.takes start first self.old.machine output.old self.old.printer → OnOk result (HasToldSome W.takes start first self.new.machine output.new self.new.printer) }
+    {
+        'steps: for _ in 0..count {
+            self.make_one(Event::Step(c), number, output)?;
+        }
+        Ok(())
     }
-}
 
-// All lines behind the boot line.
-fn do_lines<W: Sink, V: Sink>(
-    alloc: Global,
-    machine: &mut Machine<AnyDevice>,
-    rest: Rest<'_>,
-    printer: &mut Printer,
-    output: &mut W,
-    views: &mut V,
-) -> Result<(), ScriptFault>
-    ensures { (start : W) (first : State) → HasToldSome W.takes start first machine.old output.old printer.old → OnOk result (HasToldSome W.takes start first machine.new output.new printer.new) }
-{
-    let mut number = rest.number;
-    let mut text = rest.text;
-    'lines: while let Some((line, after)) = cut_line(text) {
-        do_line(alloc, machine, number, line, printer, output, views)?;
-        number = number.saturating_add(1);
-        text = after;
+    // The text of a view goes to its sink.
+    fn show<V: Sink>(
+        &self,
+        alloc: Global,
+        look: &View,
+        number: u64,
+        views: &mut V,
+    ) -> Result<(), ScriptFault> {
+        let text = match view(alloc, &self.machine, look) {
+            Ok(text) => text,
+            Err(ViewRefusal::NoMemory) => return Err(ScriptFault::Run(RunFault::NoMemory)),
+            Err(ViewRefusal::Refused(refusal)) => {
+                return Err(ScriptFault::Line(number, LineStop::Refused(refusal)));
+            }
+        };
+        match write_all(views, text.as_bytes()) {
+            Ok(()) => Ok(()),
+            Err(fault) => Err(ScriptFault::Run(RunFault::WriteFailed(fault))),
+        }
     }
-    Ok(())
+
+    // What a line asks for.
+    fn do_line<W: Sink, V: Sink>(
+        &mut self,
+        alloc: Global,
+        line: NumberedLine<'_>,
+        output: &mut W,
+        views: &mut V,
+    ) -> Result<(), ScriptFault>
+        ensures { (start : W) (first : State) → HasToldSome W.takes start first self.old.machine output.old self.old.printer → OnOk result (HasToldSome W.takes start first self.new.machine output.new self.new.printer) }
+    {
+        let number = line.number;
+        match read_line(line.text) {
+            Ok(Line::Blank) => Ok(()),
+            Ok(Line::Boot(_)) => Err(ScriptFault::Line(number, LineStop::BootedAgain)),
+            Ok(Line::Steps(c, count)) => self.make_steps(c, count, number, output),
+            Ok(Line::One(event)) => self.make_one(event.lend(), number, output),
+            Ok(Line::Look(look)) => self.show(alloc, &look, number, views),
+            Err(_) => Err(ScriptFault::Line(number, LineStop::Misspelt)),
+        }
+    }
+
+    // All lines behind the boot line.
+    fn do_lines<W: Sink, V: Sink>(
+        &mut self,
+        alloc: Global,
+        rest: Rest<'_>,
+        output: &mut W,
+        views: &mut V,
+    ) -> Result<(), ScriptFault>
+        ensures { (start : W) (first : State) → HasToldSome W.takes start first self.old.machine output.old self.old.printer → OnOk result (HasToldSome W.takes start first self.new.machine output.new self.new.printer) }
+    {
+        let mut number = rest.number;
+        let mut text = rest.text;
+        'lines: while let Some((line, after)) = cut_line(text) {
+            self.do_line(alloc, NumberedLine { number, text: line }, output, views)?;
+            number = number.saturating_add(1);
+            text = after;
+        }
+        Ok(())
+    }
 }
 
 /// Boots the machine of a script, loads the image and does the lines of the script. The text of the consoles goes to the output, the text of
@@ -216,9 +228,14 @@ pub fn run_scripted<W: Sink, V: Sink>(
     ensures { IfOk result (λ done. (boot : Boot) × HasRun W.takes image.now boot output.old done.ending done.machine output.new) }
 {
     let (boot, rest) = booted(script)?;
-    let mut machine = machine_of(alloc, image, &boot, rest.number.saturating_sub(1))?;
-    let mut printer = Printer::new(alloc);
-    do_lines(alloc, &mut machine, rest, &mut printer, output, views)?;
+    let machine = machine_of(alloc, image, &boot, rest.number.saturating_sub(1))?;
+    let printer = Printer::new(alloc);
+    let mut run = ScriptRun { machine, printer };
+    run.do_lines(alloc, rest, output, views)?;
+    let ScriptRun {
+        machine,
+        mut printer,
+    } = run;
     let is_open = printer.is_open();
     match printer.tell(output) {
         Ok(()) => {

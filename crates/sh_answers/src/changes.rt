@@ -6,7 +6,6 @@ use crate::page::Page;
 use crate::registers::register_name;
 use crate::snapshot::{Snapshot, TaskShot};
 use evm_exec::Hart;
-use evm_model::Processor;
 use evm_room::NoMemory;
 use evm_serve::{AnyDevice, Machine};
 use text_symbols::{Names, ObjectKind};
@@ -72,62 +71,6 @@ fn put_stop(
     }
 }
 
-fn put_processor(
-    page: &mut Page,
-    names: &Names,
-    machine: &Machine<AnyDevice>,
-    c: u8,
-    old: &Processor,
-    new: &Processor,
-    swallowed: u32,
-) -> Result<(), NoMemory> {
-    if old.current != new.current {
-        put_cpu(page, c)?;
-        page.put(" runs ")?;
-        put_current(page, names, machine, new.current)?;
-        page.put(", before: ")?;
-        put_current(page, names, machine, old.current)?;
-        page.put("\n")?;
-    }
-    if old.stopped != new.stopped {
-        put_cpu(page, c)?;
-        page.put(if new.stopped { " stopped" } else { " goes on" })?;
-        put_stop(page, names, machine, new.current)?;
-        if swallowed != 0 {
-            put_steps(page, swallowed)?;
-        }
-        page.put("\n")?;
-    }
-    Ok(())
-}
-
-fn put_task_change(
-    page: &mut Page,
-    names: &Names,
-    machine: &Machine<AnyDevice>,
-    t: u8,
-    old: Option<&TaskShot>,
-    new: &TaskShot,
-) -> Result<(), NoMemory> {
-    let Some(old) = old else {
-        put_task(page, names, machine, t)?;
-        page.put(" is new, ")?;
-        put_state(page, names, machine, new.state)?;
-        return page.put("\n");
-    };
-    if old.state == new.state {
-        return Ok(());
-    }
-    put_task(page, names, machine, t)?;
-    page.put(" at ")?;
-    put_pc(page, names, machine, &new.hart, new.state)?;
-    page.put(" ")?;
-    put_state(page, names, machine, new.state)?;
-    page.put(", was: ")?;
-    put_state(page, names, machine, old.state)?;
-    page.put("\n")
-}
-
 // So many steps did nothing.
 fn put_steps(page: &mut Page, count: u32) -> Result<(), NoMemory> {
     page.put(", ")?;
@@ -169,115 +112,146 @@ fn swallowed_by(c: u8, swallowed: Option<Swallowed>) -> u32 {
     }
 }
 
-/// The processors that were stopped or let go, or run another task, and the tasks whose state is another. A processor that
-/// has stopped may have swallowed steps.
-pub fn put_changes(
-    page: &mut Page,
-    names: &Names,
-    machine: &Machine<AnyDevice>,
-    old: &Snapshot,
-    swallowed: Option<Swallowed>,
-) -> Result<(), NoMemory> {
-    for c in 0..machine.cpu_count() {
-        if let Some(before) = old.processors.get(usize::from(c))
-            && let Some(now) = machine.cpu(c)
-        {
-            let steps = swallowed_by(c, swallowed);
-            put_processor(page, names, machine, c, before, &now, steps)?;
-        }
-    }
-    for t in 0..machine.task_count() {
-        if let Some(task) = machine.task(t)
-            && let Some(hart) = machine.hart(t)
-        {
-            let state = task.state;
-            let new = TaskShot { state, hart };
-            put_task_change(page, names, machine, t, old.tasks.get(usize::from(t)), &new)?;
-        }
-    }
-    Ok(())
+/// A machine, with its names, beside what it was.
+#[derive(Clone, Copy)]
+pub struct Comparison<'a> {
+    pub names: &'a Names,
+    pub machine: &'a Machine<AnyDevice>,
+    pub old: &'a Snapshot,
 }
 
-fn put_registers(
-    page: &mut Page,
-    names: &Names,
-    machine: &Machine<AnyDevice>,
-    t: u8,
-    old: &Hart,
-    new: &Hart,
-) -> Result<(), NoMemory> {
-    for r in 1..32usize {
-        if old.regs[r] != new.regs[r] {
-            put_task(page, names, machine, t)?;
-            page.put(" ")?;
-            page.put(register_name(r))?;
-            page.put(" ")?;
-            page.put_hexadecimal(old.regs[r])?;
-            page.put(" -> ")?;
-            page.put_hexadecimal(new.regs[r])?;
+impl Comparison<'_> {
+    // The current task of a processor, if it is another, and whether the processor was stopped or let go.
+    fn put_processor(&self, page: &mut Page, c: u8, swallowed: u32) -> Result<(), NoMemory> {
+        let (Some(old), Some(new)) = (self.old.processors.get(usize::from(c)), self.machine.cpu(c))
+        else {
+            return Ok(());
+        };
+        if old.current != new.current {
+            put_cpu(page, c)?;
+            page.put(" runs ")?;
+            put_current(page, self.names, self.machine, new.current)?;
+            page.put(", before: ")?;
+            put_current(page, self.names, self.machine, old.current)?;
             page.put("\n")?;
         }
-    }
-    Ok(())
-}
-
-fn put_move(
-    page: &mut Page,
-    names: &Names,
-    machine: &Machine<AnyDevice>,
-    t: u8,
-    old: &Hart,
-    new: &Hart,
-) -> Result<(), NoMemory> {
-    if old.pc == new.pc {
-        return Ok(());
-    }
-    put_task(page, names, machine, t)?;
-    page.put(" pc ")?;
-    put_place(page, names, old.pc)?;
-    page.put(" -> ")?;
-    put_place(page, names, new.pc)?;
-    page.put("\n")
-}
-
-/// The pcs and registers that are others.
-pub fn put_harts(
-    page: &mut Page,
-    names: &Names,
-    machine: &Machine<AnyDevice>,
-    old: &Snapshot,
-) -> Result<(), NoMemory> {
-    for t in 0..machine.task_count() {
-        if let Some(before) = old.tasks.get(usize::from(t))
-            && let Some(now) = machine.hart(t)
-        {
-            put_move(page, names, machine, t, &before.hart, &now)?;
-            put_registers(page, names, machine, t, &before.hart, &now)?;
-        }
-    }
-    Ok(())
-}
-
-/// The mutexes that have another owner.
-pub fn put_owners(
-    page: &mut Page,
-    names: &Names,
-    machine: &Machine<AnyDevice>,
-    old: &Snapshot,
-) -> Result<(), NoMemory> {
-    for m in 0..machine.mutex_count() {
-        let before = old.owners.get(usize::from(m)).copied().flatten();
-        if let Some(mutex) = machine.mutex(m)
-            && mutex.owner != before
-        {
-            page.put("  ")?;
-            put_object(page, names, machine, ObjectKind::Mutex, m)?;
-            page.put(" owner ")?;
-            put_owner(page, names, machine, before)?;
-            page.put(" -> ")?;
-            put_owner(page, names, machine, mutex.owner)?;
+        if old.stopped != new.stopped {
+            put_cpu(page, c)?;
+            page.put(if new.stopped { " stopped" } else { " goes on" })?;
+            put_stop(page, self.names, self.machine, new.current)?;
+            if swallowed != 0 {
+                put_steps(page, swallowed)?;
+            }
             page.put("\n")?;
         }
+        Ok(())
     }
-    Ok(())
+
+    // The state of a task, if it is another.
+    fn put_state_change(&self, page: &mut Page, t: u8, new: &TaskShot) -> Result<(), NoMemory> {
+        let Some(old) = self.old.tasks.get(usize::from(t)) else {
+            put_task(page, self.names, self.machine, t)?;
+            page.put(" is new, ")?;
+            put_state(page, self.names, self.machine, new.state)?;
+            return page.put("\n");
+        };
+        if old.state == new.state {
+            return Ok(());
+        }
+        put_task(page, self.names, self.machine, t)?;
+        page.put(" at ")?;
+        put_pc(page, self.names, self.machine, &new.hart, new.state)?;
+        page.put(" ")?;
+        put_state(page, self.names, self.machine, new.state)?;
+        page.put(", was: ")?;
+        put_state(page, self.names, self.machine, old.state)?;
+        page.put("\n")
+    }
+
+    /// The processors that were stopped or let go, or run another task, and the tasks whose state is another. A processor that
+    /// has stopped may have swallowed steps.
+    pub fn put_states(
+        &self,
+        page: &mut Page,
+        swallowed: Option<Swallowed>,
+    ) -> Result<(), NoMemory> {
+        for c in 0..self.machine.cpu_count() {
+            self.put_processor(page, c, swallowed_by(c, swallowed))?;
+        }
+        for t in 0..self.machine.task_count() {
+            if let Some(task) = self.machine.task(t)
+                && let Some(hart) = self.machine.hart(t)
+            {
+                let state = task.state;
+                self.put_state_change(page, t, &TaskShot { state, hart })?;
+            }
+        }
+        Ok(())
+    }
+
+    fn put_registers(
+        &self,
+        page: &mut Page,
+        t: u8,
+        old: &Hart,
+        new: &Hart,
+    ) -> Result<(), NoMemory> {
+        for r in 1..32usize {
+            if old.regs[r] != new.regs[r] {
+                put_task(page, self.names, self.machine, t)?;
+                page.put(" ")?;
+                page.put(register_name(r))?;
+                page.put(" ")?;
+                page.put_hexadecimal(old.regs[r])?;
+                page.put(" -> ")?;
+                page.put_hexadecimal(new.regs[r])?;
+                page.put("\n")?;
+            }
+        }
+        Ok(())
+    }
+
+    fn put_move(&self, page: &mut Page, t: u8, old: &Hart, new: &Hart) -> Result<(), NoMemory> {
+        if old.pc == new.pc {
+            return Ok(());
+        }
+        put_task(page, self.names, self.machine, t)?;
+        page.put(" pc ")?;
+        put_place(page, self.names, old.pc)?;
+        page.put(" -> ")?;
+        put_place(page, self.names, new.pc)?;
+        page.put("\n")
+    }
+
+    /// The pcs and registers that are others.
+    pub fn put_harts(&self, page: &mut Page) -> Result<(), NoMemory> {
+        for t in 0..self.machine.task_count() {
+            if let Some(before) = self.old.tasks.get(usize::from(t))
+                && let Some(now) = self.machine.hart(t)
+            {
+                self.put_move(page, t, &before.hart, &now)?;
+                self.put_registers(page, t, &before.hart, &now)?;
+            }
+        }
+        Ok(())
+    }
+
+    /// The mutexes that have another owner.
+    pub fn put_owners(&self, page: &mut Page) -> Result<(), NoMemory> {
+        for m in 0..self.machine.mutex_count() {
+            let before = self.old.owners.get(usize::from(m)).copied().flatten();
+            if let Some(mutex) = self.machine.mutex(m)
+                && mutex.owner != before
+            {
+                page.put("  ")?;
+                put_object(page, self.names, self.machine, ObjectKind::Mutex, m)?;
+                page.put(" owner ")?;
+                put_owner(page, self.names, self.machine, before)?;
+                page.put(" -> ")?;
+                put_owner(page, self.names, self.machine, mutex.owner)?;
+                page.put("\n")?;
+            }
+        }
+        Ok(())
+    }
 }

@@ -16,7 +16,7 @@ mod views;
 mod words;
 
 pub use answers::{put_line, put_place};
-pub use changes::{Swallowed, put_changes, put_harts, put_owners, put_swallowed};
+pub use changes::{Comparison, Swallowed, put_swallowed};
 pub use conditions::{Condition, condition_of, holds};
 pub use evm_serve::{
     AnyDevice, Line, Machine, Notes, ScriptStop, ScriptedMachine, View, read_line, script_text,
@@ -25,7 +25,7 @@ pub use evm_serve::{
 pub use naming::{put_object, put_standing, source_line};
 pub use numbers::{address_of, missing_name, number_of};
 pub use page::Page;
-pub use plain::{missing_symbol, put_plain, report_stop, script_fault};
+pub use plain::{StoppedLine, missing_symbol, put_plain, report_stop, script_fault};
 pub use show::{Numbers, numbers_of, put_numbers};
 pub use snapshot::{Snapshot, push_one};
 pub use text_symbols::{Names, ObjectKind, SourceLine};

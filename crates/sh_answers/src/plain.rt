@@ -118,26 +118,39 @@ pub fn script_fault(script: &[u8], number: u64, stop: ScriptStop) -> Option<Inpu
     fault_of(stop, number, line)
 }
 
+/// A plain line that is not done.
+#[derive(Clone, Copy)]
+pub struct StoppedLine<'a> {
+    /// The number under which it is reported.
+    pub number: u64,
+    pub line: &'a [u8],
+    pub stop: ScriptStop,
+    /// The lines that were done before it.
+    pub done: &'a [PlainLine],
+    pub image: &'a Image,
+}
+
 /// Says why a plain line is not done, as `evltool` says it of a line of a script; the line is behind those that were done.
 pub fn report_stop(
     alloc: Global,
     page: &mut Page,
-    image: &Image,
-    done: &[PlainLine],
-    number: u64,
-    line: &[u8],
-    stop: ScriptStop,
+    stopped: &StoppedLine<'_>,
 ) -> Result<(), NoMemory> {
     let mut text = Page::new(alloc);
-    text.put_bytes(&script_text(alloc, done)?)?;
-    text.put_bytes(line)?;
+    text.put_bytes(&script_text(alloc, stopped.done)?)?;
+    text.put_bytes(stopped.line)?;
     text.put("\n")?;
-    let place = (done.len() as u64).saturating_add(1);
-    let Some(fault) = fault_of(stop, place, line) else {
+    let place = (stopped.done.len() as u64).saturating_add(1);
+    let Some(fault) = fault_of(stopped.stop, place, stopped.line) else {
         return Err(NoMemory);
     };
-    let message = fault_detail(Some(image), text.bytes(), fault);
+    let message = fault_detail(Some(stopped.image), text.bytes(), fault);
     page.put("! ")?;
-    report_line("line", number, Diagnostic::Alone(message), page.sink());
+    report_line(
+        "line",
+        stopped.number,
+        Diagnostic::Alone(message),
+        page.sink(),
+    );
     Ok(())
 }

@@ -1,11 +1,12 @@
 //! Commands that look at the machine and leave it as it is.
 
+use crate::answer::LineAnswer;
 use crate::shell::{Outcome, Shell, Watch};
 use evm_room::NoMemory;
 use evm_streams::Meter;
 use sh_answers::{
-    AnyDevice, Line, Machine, Names, Page, Snapshot, address_of, numbers_of, push_one, put_changes,
-    put_harts, put_line, put_numbers, put_owners, put_place, put_plain, read_line,
+    AnyDevice, Comparison, Line, Machine, Names, Page, Snapshot, address_of, numbers_of, push_one,
+    put_line, put_numbers, put_place, put_plain, read_line,
 };
 use std::alloc::Global;
 use text_symbols::{CodeSpot, SymbolTable};
@@ -111,49 +112,40 @@ impl<M: Meter + Drop> Shell<'_, M> {
     /// `expect VIEW is TEXT`: whether the text of a view is this, or has it.
     pub(crate) fn expect(
         &mut self,
-        alloc: Global,
-        number: u64,
         rest: &str,
-        page: &mut Page,
+        answer: &mut LineAnswer,
     ) -> Result<Outcome, NoMemory> {
         let Some((view, whole, wanted)) = expected(rest) else {
             return Ok(Outcome::Wanted(EXPECT_FORM));
         };
-        let mut line = Page::new(alloc);
+        let mut line = Page::new(answer.alloc);
         put_plain(&mut line, &self.names, view)?;
         let Ok(Line::Look(_)) = read_line(line.bytes()) else {
             return Ok(Outcome::Wanted(EXPECT_FORM));
         };
-        let mut seen = Page::new(alloc);
-        if !self.run_plain(alloc, number, line.bytes(), &mut seen)? {
-            self.add_case(alloc, number, rest, false, seen.bytes())?;
-            page.put_bytes(seen.bytes())?;
+        let mut seen = LineAnswer::new(answer.alloc, answer.number);
+        if !self.run_plain(line.bytes(), &mut seen)? {
+            self.add_case(rest, false, &seen)?;
+            answer.page.put_bytes(seen.bytes())?;
             return Ok(Outcome::Said);
         }
         let met = is_met(seen.bytes(), whole, wanted);
-        self.add_case(alloc, number, rest, met, seen.bytes())?;
-        self.tell_met(seen.bytes(), met, page)?;
+        self.add_case(rest, met, &seen)?;
+        self.tell_met(seen.bytes(), met, &mut answer.page)?;
         Ok(Outcome::Said)
     }
 
     // Adds a case to the test suite, if one is written.
-    fn add_case(
-        &mut self,
-        alloc: Global,
-        number: u64,
-        words: &str,
-        met: bool,
-        seen: &[u8],
-    ) -> Result<(), NoMemory> {
+    fn add_case(&mut self, words: &str, met: bool, seen: &LineAnswer) -> Result<(), NoMemory> {
         let Some(cases) = &mut self.cases else {
             return Ok(());
         };
         let shown = if met {
             None
         } else {
-            Some(std::str::from_utf8(seen).unwrap_or(""))
+            Some(std::str::from_utf8(seen.bytes()).unwrap_or(""))
         };
-        cases.add(alloc, number, words, shown)
+        cases.add(seen.alloc, seen.number, words, shown)
     }
 
     // Says whether an expectation is met, and what was seen if not.
@@ -211,9 +203,14 @@ impl<M: Meter + Drop> Shell<'_, M> {
         page.put(" events, ")?;
         page.put_decimal(machine.ticks().saturating_sub(mark.ticks))?;
         page.put(" ticks\n")?;
-        put_changes(page, &self.names, machine, mark, None)?;
-        put_owners(page, &self.names, machine, mark)?;
-        put_harts(page, &self.names, machine, mark)?;
+        let comparison = Comparison {
+            names: &self.names,
+            machine,
+            old: mark,
+        };
+        comparison.put_states(page, None)?;
+        comparison.put_owners(page)?;
+        comparison.put_harts(page)?;
         Ok(Outcome::Said)
     }
 

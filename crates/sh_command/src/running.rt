@@ -2,12 +2,13 @@
 
 ghost use Rattle.std.specs.Prelude.{◌<◌, ◌≤◌, IfSome};
 
+use crate::answer::LineAnswer;
 use crate::shell::{Outcome, Shell};
 use evm_room::NoMemory;
 use evm_streams::Meter;
 use sh_answers::{
-    Condition, Line, Page, ScriptStop, Snapshot, Swallowed, View, condition_of, holds, number_of,
-    put_changes, put_decoded, put_plain, put_swallowed, read_line, report_stop,
+    Comparison, Condition, Line, Page, ScriptStop, Snapshot, StoppedLine, Swallowed, View,
+    condition_of, holds, number_of, put_decoded, put_plain, put_swallowed, read_line, report_stop,
 };
 use std::alloc::Global;
 
@@ -53,25 +54,30 @@ pub(crate) fn put_steps(page: &mut Page, c: u8, count: u64) -> Result<(), NoMemo
 }
 
 impl<M: Meter + Drop> Shell<'_, M> {
-    // Does a plain line, and appends the text of its view; false where it is not done, which the page says.
+    // Does a plain line, and appends the text of its view; false where it is not done, which the answer says.
     pub(crate) fn run_plain(
         &mut self,
-        alloc: Global,
-        number: u64,
         line: &[u8],
-        page: &mut Page,
+        answer: &mut LineAnswer,
     ) -> Result<bool, NoMemory> {
+        let alloc = answer.alloc;
         let mut text = String::new(alloc);
         match self.scripted.run(alloc, line, &mut text, &mut self.notes) {
             Ok(()) => {
-                page.put(&text)?;
+                answer.page.put(&text)?;
                 Ok(true)
             }
             Err(ScriptStop::NoMemory) => Err(NoMemory),
             Err(stop) => {
                 self.failed = true;
-                let done = self.scripted.lines();
-                report_stop(alloc, page, self.image, done, number, line, stop)?;
+                let stopped = StoppedLine {
+                    number: answer.number,
+                    line,
+                    stop,
+                    done: self.scripted.lines(),
+                    image: self.image,
+                };
+                report_stop(alloc, &mut answer.page, &stopped)?;
                 Ok(false)
             }
         }
@@ -101,7 +107,12 @@ impl<M: Meter + Drop> Shell<'_, M> {
         if let Some(machine) = self.scripted.machine()
             && let Some(before) = before
         {
-            put_changes(page, &self.names, machine, before, swallowed)?;
+            let comparison = Comparison {
+                names: &self.names,
+                machine,
+                old: before,
+            };
+            comparison.put_states(page, swallowed)?;
         }
         self.tell_watches(page)
     }
@@ -109,17 +120,16 @@ impl<M: Meter + Drop> Shell<'_, M> {
     /// A line of a script, with names.
     pub(crate) fn plain(
         &mut self,
-        alloc: Global,
-        number: u64,
         text: &str,
-        page: &mut Page,
+        answer: &mut LineAnswer,
     ) -> Result<Outcome, NoMemory> {
-        let mut line = Page::new(alloc);
+        let mut line = Page::new(answer.alloc);
         put_plain(&mut line, &self.names, text)?;
-        let before = self.shot(alloc)?;
-        if !self.run_plain(alloc, number, line.bytes(), page)? {
+        let before = self.shot(answer.alloc)?;
+        if !self.run_plain(line.bytes(), answer)? {
             return Ok(Outcome::Said);
         }
+        let page = &mut answer.page;
         match read_line(line.bytes()) {
             Ok(Line::Look(view)) => self.decode(&view, page)?,
             Ok(Line::Steps(c, count)) if was_stopped(before.as_ref(), c) => {
@@ -146,50 +156,30 @@ impl<M: Meter + Drop> Shell<'_, M> {
     }
 
     // Steps of a processor, as a plain line.
-    fn steps(
-        &mut self,
-        alloc: Global,
-        number: u64,
-        c: u8,
-        count: u64,
-        page: &mut Page,
-    ) -> Result<bool, NoMemory> {
-        let mut line = Page::new(alloc);
+    fn steps(&mut self, c: u8, count: u64, answer: &mut LineAnswer) -> Result<bool, NoMemory> {
+        let mut line = Page::new(answer.alloc);
         put_steps(&mut line, c, count)?;
-        self.run_plain(alloc, number, line.bytes(), page)
+        self.run_plain(line.bytes(), answer)
     }
 
     // A step of each processor.
-    fn round(
-        &mut self,
-        alloc: Global,
-        number: u64,
-        cpus: u8,
-        page: &mut Page,
-    ) -> Result<bool, NoMemory> {
+    fn round(&mut self, cpus: u8, answer: &mut LineAnswer) -> Result<bool, NoMemory> {
         for c in 0..cpus {
-            if !self.steps(alloc, number, c, 1, page)? {
+            if !self.steps(c, 1, answer)? {
                 return Ok(false);
             }
         }
         Ok(true)
     }
 
-    fn rounds(
-        &mut self,
-        alloc: Global,
-        number: u64,
-        cpus: u8,
-        count: u64,
-        page: &mut Page,
-    ) -> Result<(), NoMemory> {
+    fn rounds(&mut self, cpus: u8, count: u64, answer: &mut LineAnswer) -> Result<(), NoMemory> {
         if cpus == 1 {
-            let _done = self.steps(alloc, number, 0, count, page)?;
+            let _done = self.steps(0, count, answer)?;
             return Ok(());
         }
         for done in 0..count {
             self.meter.passed(done);
-            if !self.round(alloc, number, cpus, page)? {
+            if !self.round(cpus, answer)? {
                 return Ok(());
             }
         }
@@ -199,10 +189,8 @@ impl<M: Meter + Drop> Shell<'_, M> {
     /// `each N`: N rounds over all processors.
     pub(crate) fn each(
         &mut self,
-        alloc: Global,
-        number: u64,
         rest: &str,
-        page: &mut Page,
+        answer: &mut LineAnswer,
     ) -> Result<Outcome, NoMemory> {
         let Some(count) = rounds_of(rest) else {
             return Ok(Outcome::Wanted(EACH_FORM));
@@ -211,23 +199,21 @@ impl<M: Meter + Drop> Shell<'_, M> {
             return Ok(Outcome::NotBooted);
         };
         let cpus = machine.cpu_count();
-        let before = self.shot(alloc)?;
-        let outcome = self.rounds(alloc, number, cpus, count, page);
+        let before = self.shot(answer.alloc)?;
+        let outcome = self.rounds(cpus, count, answer);
         self.meter.ended();
         outcome?;
         let swallowed = if cpus == 1 { self.swallowed(0) } else { None };
-        self.tell(before.as_ref(), swallowed, page)?;
+        self.tell(before.as_ref(), swallowed, &mut answer.page)?;
         Ok(Outcome::Said)
     }
 
     // How many rounds came before a condition held; none where it never did, or a step was not done.
     fn rounds_until(
         &mut self,
-        alloc: Global,
-        number: u64,
         condition: Condition,
         bound: u64,
-        page: &mut Page,
+        answer: &mut LineAnswer,
     ) -> Result<Option<u64>, NoMemory> {
         for done in 0..bound {
             let Some(machine) = self.scripted.machine() else {
@@ -238,7 +224,7 @@ impl<M: Meter + Drop> Shell<'_, M> {
             }
             let cpus = machine.cpu_count();
             self.meter.passed(done);
-            if !self.round(alloc, number, cpus, page)? {
+            if !self.round(cpus, answer)? {
                 return Ok(None);
             }
         }
@@ -265,10 +251,8 @@ impl<M: Meter + Drop> Shell<'_, M> {
     /// `until CONDITION [within N]`: rounds over all processors until a condition holds, or N of them.
     pub(crate) fn until(
         &mut self,
-        alloc: Global,
-        number: u64,
         rest: &str,
-        page: &mut Page,
+        answer: &mut LineAnswer,
     ) -> Result<Outcome, NoMemory> {
         let (words, bound) = match rest.split_once(" within ") {
             None => (rest, Some(ROUNDS)),
@@ -280,12 +264,12 @@ impl<M: Meter + Drop> Shell<'_, M> {
         if self.scripted.machine().is_none() {
             return Ok(Outcome::NotBooted);
         }
-        let before = self.shot(alloc)?;
-        let outcome = self.rounds_until(alloc, number, condition, bound, page);
+        let before = self.shot(answer.alloc)?;
+        let outcome = self.rounds_until(condition, bound, answer);
         self.meter.ended();
         let reached = outcome?;
-        self.say_rounds(reached, page)?;
-        self.tell(before.as_ref(), None, page)?;
+        self.say_rounds(reached, &mut answer.page)?;
+        self.tell(before.as_ref(), None, &mut answer.page)?;
         Ok(Outcome::Said)
     }
 }

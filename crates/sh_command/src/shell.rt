@@ -1,12 +1,13 @@
 //! The shell: a line, and what it answers.
 
+use crate::answer::LineAnswer;
 use crate::cases::Cases;
 use crate::commands::{Suggestion, UNKNOWN, missing_in, suggest};
 use crate::help::SHELL_HELP;
 use evm_ram::Image;
 use evm_room::NoMemory;
 use evm_streams::Meter;
-use sh_answers::{Names, Notes, Page, ScriptedMachine, Snapshot, split_word};
+use sh_answers::{Names, Notes, ScriptedMachine, Snapshot, split_word};
 use std::alloc::Global;
 
 /// A word of RAM that is watched: its address, and what it was.
@@ -82,44 +83,38 @@ impl<'a, M: Meter + Drop> Shell<'a, M> {
     }
 
     // A command, from its keyword and the words behind it.
-    fn command(
-        &mut self,
-        alloc: Global,
-        number: u64,
-        text: &str,
-        page: &mut Page,
-    ) -> Result<Outcome, NoMemory> {
+    fn command(&mut self, text: &str, answer: &mut LineAnswer) -> Result<Outcome, NoMemory> {
         let (keyword, rest) = split_word(text);
         match keyword {
-            "each" => self.each(alloc, number, rest, page),
-            "until" => self.until(alloc, number, rest, page),
-            "expect" => self.expect(alloc, number, rest, page),
-            "watch" => self.watch(rest, page),
-            "show" => self.show(rest, page),
-            "mark" => self.set_mark(alloc, rest),
-            "diff" => self.diff(rest, page),
-            "where" => self.place(rest, page),
-            "symbols" => self.list(rest, page),
+            "each" => self.each(rest, answer),
+            "until" => self.until(rest, answer),
+            "expect" => self.expect(rest, answer),
+            "watch" => self.watch(rest, &mut answer.page),
+            "show" => self.show(rest, &mut answer.page),
+            "mark" => self.set_mark(answer.alloc, rest),
+            "diff" => self.diff(rest, &mut answer.page),
+            "where" => self.place(rest, &mut answer.page),
+            "symbols" => self.list(rest, &mut answer.page),
             "help" => {
-                page.put(SHELL_HELP)?;
+                answer.page.put(SHELL_HELP)?;
                 Ok(Outcome::Said)
             }
-            _ => self.plain(alloc, number, text, page),
+            _ => self.plain(text, answer),
         }
     }
 
     // Says that a line is misspelt, or that there is no machine; behind the words, in quotes or not, one that is at fault.
     fn blame_word(
         &mut self,
-        number: u64,
         words: &str,
         word: &str,
         behind: &str,
-        page: &mut Page,
+        answer: &mut LineAnswer,
     ) -> Result<(), NoMemory> {
         self.failed = true;
+        let page = &mut answer.page;
         page.put("! line:")?;
-        page.put_decimal(number)?;
+        page.put_decimal(answer.number)?;
         page.put(": ")?;
         page.put(words)?;
         page.put(word)?;
@@ -127,69 +122,62 @@ impl<'a, M: Meter + Drop> Shell<'a, M> {
         page.put("\n")
     }
 
-    fn blame(&mut self, number: u64, words: &str, page: &mut Page) -> Result<(), NoMemory> {
-        self.blame_word(number, words, "", "", page)
+    fn blame(&mut self, words: &str, answer: &mut LineAnswer) -> Result<(), NoMemory> {
+        self.blame_word(words, "", "", answer)
     }
 
     // Whether a line is not done since it has no such command or no such symbol, which the page says then.
-    fn is_unknown(&mut self, number: u64, text: &str, page: &mut Page) -> Result<bool, NoMemory> {
+    fn is_unknown(&mut self, text: &str, answer: &mut LineAnswer) -> Result<bool, NoMemory> {
         let (keyword, rest) = split_word(text);
         match suggest(keyword) {
             Suggestion::Known => {}
             Suggestion::Near(word) => {
                 self.blame_word(
-                    number,
                     "bad line: no such command; did you mean `",
                     word,
                     "`?",
-                    page,
+                    answer,
                 )?;
                 return Ok(true);
             }
             Suggestion::Unknown => {
-                self.blame(number, UNKNOWN, page)?;
+                self.blame(UNKNOWN, answer)?;
                 return Ok(true);
             }
         }
         let Some(name) = missing_in(&self.names, keyword, rest, text) else {
             return Ok(false);
         };
-        self.blame_word(number, "bad line: no symbol ", name, "", page)?;
+        self.blame_word("bad line: no symbol ", name, "", answer)?;
         Ok(true)
     }
 
-    /// Does the line of this number, without its newline, and appends to the page the line and what it answers.
+    /// Does a line, without its newline, and appends to the answer the line and what it answers.
     ///
     /// # Errors
     ///
     /// Memory was refused. The machine is as the lines say that were done.
-    pub fn line(
-        &mut self,
-        alloc: Global,
-        number: u64,
-        line: &[u8],
-        page: &mut Page,
-    ) -> Result<(), NoMemory> {
+    pub fn line(&mut self, line: &[u8], answer: &mut LineAnswer) -> Result<(), NoMemory> {
         let Ok(text) = std::str::from_utf8(line) else {
-            return self.blame(number, "bad line: no UTF-8", page);
+            return self.blame("bad line: no UTF-8", answer);
         };
         let text = text.trim_end();
         if text.is_empty() || text.starts_with('#') {
             return Ok(());
         }
         if self.is_echoing {
-            page.put("> ")?;
-            page.put(text)?;
-            page.put("\n")?;
+            answer.page.put("> ")?;
+            answer.page.put(text)?;
+            answer.page.put("\n")?;
         }
-        if self.is_unknown(number, text, page)? {
+        if self.is_unknown(text, answer)? {
             return Ok(());
         }
-        match self.command(alloc, number, text, page)? {
+        match self.command(text, answer)? {
             Outcome::Said => Ok(()),
-            Outcome::Wanted(form) => self.blame(number, form, page),
+            Outcome::Wanted(form) => self.blame(form, answer),
             Outcome::NotBooted => {
-                self.blame(number, "bad line: the first command must be `boot`", page)
+                self.blame("bad line: the first command must be `boot`", answer)
             }
         }
     }

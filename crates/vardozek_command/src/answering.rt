@@ -11,7 +11,7 @@ use evm_streams::Progress;
 use gdb_command::gdb;
 use gdb_packets::InputThread;
 use hunt_command::{HuntProgress, hunt_for};
-use run_command::{journal_for, run_for};
+use run_command::{NamedImage, journal_for, run_for};
 use sh_command::sh;
 use std::alloc::Global;
 use std::io::{IsTerminal, Read};
@@ -38,7 +38,12 @@ fn ran<S: System>(
     }
     let image = image_at(alloc, path, world)?;
     let names = names_at(alloc, PROGRAM, path, words.get_str("map"), world)?;
-    Ok(Some(journal_for(alloc, words, path, &image, &names, world)?))
+    let program = NamedImage {
+        path,
+        image: &image,
+        names: &names,
+    };
+    Ok(Some(journal_for(alloc, words, &program, world)?))
 }
 
 // `view` and `trace`, which replay a journal.

@@ -1,8 +1,0 @@
-use Rattle.evm_model.specs.State.{State}
-use Rattle.run_schedule.specs.Runs.{HasToldSome}
-use Rattle.run_schedule.proofs.scripting.make_steps.Given as goal
-
--- what was printed is told or kept
-abbrev pub invariant-steps : goal.invariant-steps
-invariant-steps g l =
-    (start : g.row.W.Denot) (first : State) → HasToldSome {W = g.row.W.Denot} g.W.Sink.takes start first l.fn.machine l.fn.output l.fn.printer → HasToldSome {W = g.row.W.Denot} g.W.Sink.takes start first l.machine l.output l.printer
