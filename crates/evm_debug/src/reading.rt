@@ -128,6 +128,7 @@ fn line_at(bytes: &[u8]) -> Option<Line>
 
 /// The line of events without bytes that a line of a script is; most lines of a long script are such. It comes
 /// without its newline. `None` for any other line.
+#[inline(always)]
 #[tactic(auto, using(crate::proofs::Lines::short_read))]
 pub fn read_short(bytes: &[u8]) -> Option<EventLine<NoBytes>>
     // It is what the whole grammar reads.

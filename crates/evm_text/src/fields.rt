@@ -7,6 +7,7 @@ ghost use Rattle.evm_text.specs.Fields.{u8_at, count_at, count_last, decimal_the
 use crate::reading::{BLOCK_LIMIT, after_word, decimal_at, hexadecimal_at, pairs_at};
 use arrayvec::ArrayVec;
 
+#[inline(always)]
 #[tactic(auto, unfolding(crate::specs::Fields::u8_at))]
 fn u8_at(bytes: &[u8]) -> Option<(u8, &[u8])>
     ensures { ReadsAs (λ x. (x.0, x.1.now)) result (u8_at bytes.now) }
@@ -19,6 +20,7 @@ fn u8_at(bytes: &[u8]) -> Option<(u8, &[u8])>
     }
 }
 
+#[inline(always)]
 #[tactic(auto, unfolding(crate::specs::Fields::count_at))]
 fn count_at(greatest: u64, bytes: &[u8]) -> Option<(u64, &[u8])>
     ensures range { IfSome result (λ x. x.0 ≤ greatest) }
@@ -35,6 +37,7 @@ fn count_at(greatest: u64, bytes: &[u8]) -> Option<(u64, &[u8])>
 }
 
 /// A decimal number below 2^64 and one blank at the front, and the bytes behind them.
+#[inline(always)]
 #[tactic(auto, unfolding(crate::specs::Fields::then_blank))]
 pub fn decimal_then(bytes: &[u8]) -> Option<(u64, &[u8])>
     ensures { ReadsAs (λ x. (x.0, x.1.now)) result (decimal_then bytes.now) }
@@ -44,6 +47,7 @@ pub fn decimal_then(bytes: &[u8]) -> Option<(u64, &[u8])>
 }
 
 /// A decimal number below 2^64 that is all of the bytes.
+#[inline(always)]
 #[tactic(auto, unfolding(crate::specs::Fields::then_end))]
 pub fn decimal_last(bytes: &[u8]) -> Option<u64>
     ensures { result ≡ decimal_last bytes.now }
@@ -53,6 +57,7 @@ pub fn decimal_last(bytes: &[u8]) -> Option<u64>
 }
 
 /// A decimal number from 1 to a greatest that is all of the bytes.
+#[inline(always)]
 #[tactic(auto, unfolding(crate::specs::Fields::then_end))]
 pub fn count_last(greatest: u64, bytes: &[u8]) -> Option<u64>
     ensures range { IfSome result (λ number. number ≤ greatest) }
@@ -63,6 +68,7 @@ pub fn count_last(greatest: u64, bytes: &[u8]) -> Option<u64>
 }
 
 /// A decimal number below 256 and one blank at the front, and the bytes behind them.
+#[inline(always)]
 #[tactic(auto, unfolding(crate::specs::Fields::then_blank))]
 pub fn u8_then(bytes: &[u8]) -> Option<(u8, &[u8])>
     ensures { ReadsAs (λ x. (x.0, x.1.now)) result (u8_then bytes.now) }
@@ -72,6 +78,7 @@ pub fn u8_then(bytes: &[u8]) -> Option<(u8, &[u8])>
 }
 
 /// A decimal number below 256 that is all of the bytes.
+#[inline(always)]
 #[tactic(auto, unfolding(crate::specs::Fields::then_end))]
 pub fn u8_last(bytes: &[u8]) -> Option<u8>
     ensures { result ≡ u8_last bytes.now }
@@ -81,6 +88,7 @@ pub fn u8_last(bytes: &[u8]) -> Option<u8>
 }
 
 /// A hexadecimal number below 2^64 and one blank at the front, and the bytes behind them.
+#[inline(always)]
 #[tactic(auto, unfolding(crate::specs::Fields::then_blank))]
 pub fn hexadecimal_then(bytes: &[u8]) -> Option<(u64, &[u8])>
     ensures { ReadsAs (λ x. (x.0, x.1.now)) result (hexadecimal_then bytes.now) }
@@ -90,6 +98,7 @@ pub fn hexadecimal_then(bytes: &[u8]) -> Option<(u64, &[u8])>
 }
 
 /// A hexadecimal number below 2^64 that is all of the bytes.
+#[inline(always)]
 #[tactic(auto, unfolding(crate::specs::Fields::then_end))]
 pub fn hexadecimal_last(bytes: &[u8]) -> Option<u64>
     ensures { result ≡ hexadecimal_last bytes.now }

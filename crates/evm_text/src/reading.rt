@@ -6,6 +6,7 @@ use arrayvec::ArrayVec;
 /// How many bytes pairs of digits may spell.
 pub const BLOCK_LIMIT: usize = 64;
 
+#[inline(always)]
 #[tactic(auto, unfolding(crate::specs::Reading::worth))]
 fn worth(character: u8) -> u8
     ensures { result ≡ worth character }
@@ -17,6 +18,7 @@ fn worth(character: u8) -> u8
     }
 }
 
+#[inline(always)]
 fn begins_with_digit(base: u8, bytes: &[u8]) -> bool
     ensures { result ≡ begins_with_digit base bytes.now }
 {
@@ -26,6 +28,7 @@ fn begins_with_digit(base: u8, bytes: &[u8]) -> bool
     }
 }
 
+#[inline(always)]
 #[tactic(auto, unfolding(crate::specs::Reading::number_on))]
 fn number_on(base: u8, first: u8, bytes: &[u8]) -> Option<(u64, &[u8])>
     ensures { ReadsAs (λ x. (x.0, x.1.now)) result (number_on base first bytes.now) }
@@ -45,6 +48,8 @@ fn number_on(base: u8, first: u8, bytes: &[u8]) -> Option<(u64, &[u8])>
     Some((number, rest))
 }
 
+// In the bodies that call it the base is a constant.
+#[inline(always)]
 #[tactic(auto, unfolding(crate::specs::Reading::number_at))]
 fn number_at(base: u8, bytes: &[u8]) -> Option<(u64, &[u8])>
     ensures { ReadsAs (λ x. (x.0, x.1.now)) result (number_at base bytes.now) }
@@ -63,6 +68,7 @@ fn number_at(base: u8, bytes: &[u8]) -> Option<(u64, &[u8])>
 }
 
 /// The decimal number at the front, below 2^64 and with no leading zero, and the bytes behind it.
+#[inline(never)]
 pub fn decimal_at(bytes: &[u8]) -> Option<(u64, &[u8])>
     ensures { ReadsAs (λ x. (x.0, x.1.now)) result (decimal_at bytes.now) }
 {
@@ -70,6 +76,7 @@ pub fn decimal_at(bytes: &[u8]) -> Option<(u64, &[u8])>
 }
 
 /// The same in hexadecimal, of lower-case digits.
+#[inline(never)]
 pub fn hexadecimal_at(bytes: &[u8]) -> Option<(u64, &[u8])>
     ensures { ReadsAs (λ x. (x.0, x.1.now)) result (hexadecimal_at bytes.now) }
 {
@@ -116,7 +123,8 @@ pub fn pairs_at(bytes: &[u8]) -> Option<(ArrayVec<u8, BLOCK_LIMIT>, &[u8])>
     Some((pairs, rest))
 }
 
-/// The bytes behind a word that stands at the front.
+/// The bytes behind a word that stands at the front. Where the word is a constant, a compare or two find it.
+#[inline(always)]
 pub fn after_word<'a>(word: &[u8], bytes: &'a [u8]) -> Option<&'a [u8]>
     ensures { ReadsAs (λ x. x.now) result (after_word word.now bytes.now) }
 {
