@@ -90,6 +90,7 @@ fn run_unbooted<D: Device>(
 }
 
 // What came of an event.
+#[inline(always)]
 fn run_event<D: Device>(number: u64, event: Event<&Block>, machine: &mut Machine<D>) -> Reply
     ensures note { reply_note result ≡ Option.None }
     ensures outcome { Replies result [] (Option.Some machine.new) (event_outcome number (event_lent event.entry) (apply machine.old (event_lent event.entry))) }
@@ -101,6 +102,7 @@ fn run_event<D: Device>(number: u64, event: Event<&Block>, machine: &mut Machine
 }
 
 // Steps of a processor.
+#[inline(always)]
 fn run_steps<D: Device>(number: u64, c: u8, count: u32, machine: &mut Machine<D>) -> Reply
     ensures note { reply_note result ≡ steps_noted c (is_cpu_stopped c machine.old) (steps c count machine.old) }
     ensures outcome { Replies result [] (Option.Some machine.new) (steps_outcome number c (steps c count machine.old)) }
@@ -113,6 +115,7 @@ fn run_steps<D: Device>(number: u64, c: u8, count: u32, machine: &mut Machine<D>
 }
 
 // A line of events without bytes, if a machine is booted.
+#[inline(always)]
 fn run_short<D: Device>(number: u64, line: EventLine<NoBytes>, machine: &mut Machine<D>) -> Reply
     ensures note { reply_note result ≡ line_noted machine.old (script_line (short_line line)) }
     ensures outcome { Replies result [] (Option.Some machine.new) (booted_outcome number machine.old (script_line (short_line line))) }
@@ -194,6 +197,7 @@ fn run_any<D: Device>(
 
 /// Runs the line of this number of a script on the machine, if one is booted, and leaves its text in `text`. The boot line
 /// takes the devices that are held for it, and loads the image, if there is one.
+#[inline(always)]
 pub(crate) fn run_line<D: Device>(
     alloc: Global,
     image: Option<&Image>,
