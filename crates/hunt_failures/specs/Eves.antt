@@ -7,7 +7,7 @@ use Rattle.evm_model.specs.declared.errno.Errno.{Errno}
 use Rattle.evm_model.specs.declared.event.Answer.{Answer}
 use Rattle.evm_model.specs.declared.event.Answer.TheVariants.{Ran}
 use Rattle.evm_model.specs.declared.notice.NoticeKind.{NoticeKind}
-use Rattle.hunt_failures.specs.Failures.{IsAbandoned, IsAnsweredLate, IsAtCall, IsCaller, IsDeadlock, IsDemoted, IsNoticed, IsRefused, IsUnawaited, IsWokenLate, awaits_timer, call_in, faulted_at, has_error, has_kind, is_to_stay, live_owner, looks_at_calls, stopped_at}
+use Rattle.hunt_failures.specs.Failures.{IsAbandoned, IsAnsweredLate, IsAtCall, IsCaller, IsDeadlock, IsDemoted, IsNoticed, IsRefused, IsUnawaited, IsWokenLate, awaits_timer, call_in, faulted_at, has_error, has_kind, is_to_stay, live_owner, looks_at_calls, step_of, stopped_at}
 use Rattle.hunt_failures.specs.declared.calls.Caller.{Caller}
 use Rattle.hunt_failures.specs.declared.eve.Eve.{Eve}
 use Rattle.hunt_failures.specs.declared.lines.Unawaited.{Unawaited}
@@ -58,6 +58,7 @@ waiter_wanted true t s = awaits_timer (slice_get s.board.parts.tasks t)
 
 -- what is noted is true of the machine
 pub record IsEve (eve : Eve) (wanted : Wanted) (event : Event) (s : State) : Type 0 where
+  pub cpu : eve.cpu ≡ step_of event
   pub notices : eve.notices ≡ s.board.parts.notices.total
   pub call : IsCallNoted eve.caller wanted event s
   pub line : IsLineNoted eve.line s

@@ -39,20 +39,20 @@ pub(crate) fn is_ecall(machine: &Machine<AnyDevice>, address: u64) -> bool
 }
 
 /// The call whose number a task has in a7.
-pub(crate) fn call_in(machine: &Machine<AnyDevice>, t: u8) -> Option<Call>
-    ensures { result ≡ call_in (slice_get machine.now.board.parts.harts t) }
+pub(crate) fn call_in(machine: &Machine<AnyDevice>, task: u8) -> Option<Call>
+    ensures { result ≡ call_in (slice_get machine.now.board.parts.harts task) }
 {
-    match machine.hart(t) {
+    match machine.hart(task) {
         None => None,
         Some(hart) => Call::of_number(hart.regs[A7]),
     }
 }
 
 /// The task that a processor runs, if its next instruction is an ECALL.
-pub(crate) fn caller_on(machine: &Machine<AnyDevice>, c: u8) -> Option<Caller>
-    ensures { MatchOption result ((t pc : ℕ) → current c machine.now.board.parts ≡ Option.Some t → IsAtCall t pc machine.now → ⊥) (λ caller. (current c machine.now.board.parts ≡ Option.Some caller.task) × IsAtCall caller.task caller.pc machine.now × (caller.call ≡ call_in (slice_get machine.now.board.parts.harts caller.task))) }
+pub(crate) fn caller_on(machine: &Machine<AnyDevice>, cpu: u8) -> Option<Caller>
+    ensures { MatchOption result ((t pc : ℕ) → current cpu machine.now.board.parts ≡ Option.Some t → IsAtCall t pc machine.now → ⊥) (λ caller. (current cpu machine.now.board.parts ≡ Option.Some caller.task) × IsAtCall caller.task caller.pc machine.now × (caller.call ≡ call_in (slice_get machine.now.board.parts.harts caller.task))) }
 {
-    let Some(task) = current(machine, c) else {
+    let Some(task) = current(machine, cpu) else {
         return None;
     };
     let Some(hart) = machine.hart(task) else {

@@ -24,6 +24,8 @@ use evm_model::{Event, NoBytes};
 /// What is noted of a machine before an event.
 #[derive(Debug, Drop)]
 pub struct Eve {
+    /// The processor that the event steps.
+    pub(crate) cpu: Option<u8>,
     /// How many notices there were.
     pub(crate) notices: u64,
     /// The task that is about to make a call.
@@ -112,6 +114,7 @@ pub fn eve_of(machine: &Machine<AnyDevice>, event: Event<NoBytes>, wanted: &Want
     let waiters = waiters_for(machine, wanted);
     match stepping(event) {
         Some(c) => Eve {
+            cpu: Some(c),
             notices,
             caller: caller_of(machine, c, wanted),
             line: line_of(machine, c, wanted),
@@ -120,6 +123,7 @@ pub fn eve_of(machine: &Machine<AnyDevice>, event: Event<NoBytes>, wanted: &Want
             waiters,
         },
         None => Eve {
+            cpu: None,
             notices,
             caller: None,
             line: None,
@@ -235,10 +239,7 @@ fn too_long(
     {
         return Some(failure);
     }
-    match wanted.stuck {
-        Some(rounds) => monitor.stuck(machine, c, answer, wanted.lines, rounds),
-        None => None,
-    }
+    monitor.stuck(machine, c, answer, wanted)
 }
 
 // The failure of a step: an EBREAK, a fault, a deadlock.
@@ -297,15 +298,14 @@ fn shown(
 /// task demoted, a timer that was late, a line lost, a mutex held, a task kept back or stuck for too long.
 pub fn looked(
     machine: &Machine<AnyDevice>,
-    event: Event<NoBytes>,
     answer: Answer,
     eve: &Eve,
     wanted: &Wanted,
     monitor: &mut Monitor,
 ) -> Option<Failure>
-    ensures { (before : State) → IsEve eve.now wanted.now (short_event event) before → IsSeen wanted.now before (short_event event) answer machine.now result }
+    ensures { (before : State) (event : Happening) → IsEve eve.now wanted.now event before → IsSeen wanted.now before event answer machine.now result }
 {
-    let Some(c) = stepping(event) else {
+    let Some(c) = eve.cpu else {
         return outside(machine, eve, wanted);
     };
     match shown(machine, c, answer, eve, wanted) {

@@ -38,10 +38,10 @@ pub enum Failure {
 }
 
 /// The task that a processor runs.
-pub fn current(machine: &Machine<AnyDevice>, c: u8) -> Option<u8>
-    ensures { result ≡ current c machine.now.board.parts }
+pub fn current(machine: &Machine<AnyDevice>, cpu: u8) -> Option<u8>
+    ensures { result ≡ current cpu machine.now.board.parts }
 {
-    match machine.cpu(c) {
+    match machine.cpu(cpu) {
         Some(processor) => processor.current,
         None => None,
     }

@@ -86,14 +86,14 @@ fn unawaited_at(machine: &Machine<AnyDevice>, c: u8, line: u8) -> Option<Unawait
 /// The least of some lines that is pending on a processor where no task waits for it.
 pub(crate) fn first_unawaited(
     machine: &Machine<AnyDevice>,
-    c: u8,
+    cpu: u8,
     lines: LineSet,
 ) -> Option<Unawaited>
     ensures { IfSome result (λ line. IsUnawaited line.cpu line.line line.played machine.now) }
 {
     for line in 0..LINES {
         if lines.contains(line)
-            && let Some(found) = unawaited_at(machine, c, line)
+            && let Some(found) = unawaited_at(machine, cpu, line)
         {
             return Some(found);
         }

@@ -14,10 +14,10 @@ use evm_lines::LineSet;
 use evm_model::{Task, TaskState, Wait};
 
 /// Whether a processor is stopped.
-pub(crate) fn is_stopped(machine: &Machine<AnyDevice>, c: u8) -> bool
-    ensures { result ≡ stopped_at c machine.now }
+pub(crate) fn is_stopped(machine: &Machine<AnyDevice>, cpu: u8) -> bool
+    ensures { result ≡ stopped_at cpu machine.now }
 {
-    match machine.cpu(c) {
+    match machine.cpu(cpu) {
         None => false,
         Some(processor) => processor.stopped,
     }
@@ -198,14 +198,14 @@ pub(crate) fn notice_left(
 }
 
 /// The failure of a processor that stopped.
-pub(crate) fn stopped(machine: &Machine<AnyDevice>, c: u8, wanted: &Wanted) -> Option<Failure>
-    ensures { MatchOption result (wanted.now.ebreak ≡ true → stopped_at c machine.now ≡ true → ⊥) (λ failure. (failure ≡ Failure.Ebreak c) × (stopped_at c machine.now ≡ true)) }
+pub(crate) fn stopped(machine: &Machine<AnyDevice>, cpu: u8, wanted: &Wanted) -> Option<Failure>
+    ensures { MatchOption result (wanted.now.ebreak ≡ true → stopped_at cpu machine.now ≡ true → ⊥) (λ failure. (failure ≡ Failure.Ebreak cpu) × (stopped_at cpu machine.now ≡ true)) }
 {
     if !wanted.ebreak {
         return None;
     }
-    if is_stopped(machine, c) {
-        Some(Failure::Ebreak(c))
+    if is_stopped(machine, cpu) {
+        Some(Failure::Ebreak(cpu))
     } else {
         None
     }

@@ -9,6 +9,7 @@ ghost use Rattle.hunt_failures.specs.Failures.{Fails, IsKeptBack, IsPassedOver, 
 use crate::failure::{Failure, current, owner_of};
 use crate::looks::is_stuck_task;
 use crate::rounds::Rounds;
+use crate::wanted::Wanted;
 use evm_core::{Answer, Machine};
 use evm_devs::AnyDevice;
 use evm_lines::LineSet;
@@ -105,6 +106,16 @@ fn is_passed_over(machine: &Machine<AnyDevice>, lines: LineSet, t: u8) -> bool
     }
 }
 
+// Whether another task runs in place of one.
+fn is_skipped(machine: &Machine<AnyDevice>, lines: LineSet, runner: u8, t: u8) -> bool
+    ensures { result ≡ true → IsPassedOver lines t (Answer.Ran runner) machine.now }
+{
+    if runner == t {
+        return false;
+    }
+    is_passed_over(machine, lines, t)
+}
+
 impl Monitor {
     /// Nothing was counted.
     pub fn new() -> Monitor {
@@ -170,45 +181,37 @@ impl Monitor {
         None
     }
 
-    // Counts a step: whether a task that another runs in place of has not run for more than `rounds`.
-    fn is_stuck(
-        &mut self,
-        machine: &Machine<AnyDevice>,
-        lines: LineSet,
-        runner: u8,
-        t: u8,
-        rounds: u32,
-    ) -> bool
-        ensures { result ≡ true → IsPassedOver lines t (Answer.Ran runner) machine.now }
+    // Counts a step that another task runs in place of one or doesn't: whether that one has not run for more than `rounds`.
+    fn is_stuck(&mut self, t: u8, is_skipped: bool, rounds: u32) -> bool
+        ensures { result ≡ true → is_skipped ≡ true }
     {
-        if runner == t {
-            self.rounds.renew(t);
-            return false;
-        }
-        if !is_passed_over(machine, lines, t) {
+        if !is_skipped {
             self.rounds.renew(t);
             return false;
         }
         self.rounds.is_past(t, rounds)
     }
 
-    /// The failure of a task that does not run for more than `rounds` while others do.
+    /// The failure of a task that does not run for more rounds than are looked for while others do.
     pub(crate) fn stuck(
         &mut self,
         machine: &Machine<AnyDevice>,
-        c: u8,
+        cpu: u8,
         answer: Answer,
-        lines: LineSet,
-        rounds: u32,
+        wanted: &Wanted,
     ) -> Option<Failure>
-        ensures { (before : State) (event : Event) → IfSome result (λ failure. Fails lines failure before event answer machine.now) }
+        ensures { (before : State) (event : Event) → IfSome result (λ failure. Fails wanted.now.lines failure before event answer machine.now) }
     {
-        self.rounds.step(machine, c);
+        let Some(rounds) = wanted.stuck else {
+            return None;
+        };
+        self.rounds.step(machine, cpu);
         let Answer::Ran(runner) = answer else {
             return None;
         };
         for t in 0..machine.task_count() {
-            if self.is_stuck(machine, lines, runner, t, rounds) {
+            let is_skipped = is_skipped(machine, wanted.lines, runner, t);
+            if self.is_stuck(t, is_skipped, rounds) {
                 return Some(Failure::Stuck(t));
             }
         }

@@ -27,15 +27,15 @@ impl Rounds {
     }
 
     /// A task is counted from this round on.
-    pub(crate) fn renew(&mut self, t: u8) {
-        if let Some(since) = self.since.get_mut(usize::from(t)) {
+    pub(crate) fn renew(&mut self, task: u8) {
+        if let Some(since) = self.since.get_mut(usize::from(task)) {
             *since = self.round;
         }
     }
 
     /// Whether a task has been counted for more than `rounds` rounds.
-    pub(crate) fn is_past(&self, t: u8, rounds: u32) -> bool {
-        match self.since.get(usize::from(t)) {
+    pub(crate) fn is_past(&self, task: u8, rounds: u32) -> bool {
+        match self.since.get(usize::from(task)) {
             Some(since) => self.round.saturating_sub(*since) > rounds,
             None => false,
         }
@@ -52,12 +52,12 @@ impl Rounds {
     }
 
     /// A processor has stepped.
-    pub(crate) fn step(&mut self, machine: &Machine<AnyDevice>, c: u8) {
+    pub(crate) fn step(&mut self, machine: &Machine<AnyDevice>, cpu: u8) {
         for t in self.tasks..machine.task_count() {
             self.renew(t);
         }
         self.tasks = machine.task_count();
-        if let Some(stepped) = self.stepped.get_mut(usize::from(c)) {
+        if let Some(stepped) = self.stepped.get_mut(usize::from(cpu)) {
             *stepped = true;
         }
         if self.is_over(machine) {

@@ -72,10 +72,10 @@ fn leaves(machine: &Machine<AnyDevice>, t: u8) -> bool
 }
 
 /// The out-of-band task that a processor runs, unless its next instruction is a call by which it goes in-band itself.
-pub(crate) fn staying_on(machine: &Machine<AnyDevice>, c: u8) -> Option<u8>
-    ensures { MatchOption result ((t : ℕ) → current c machine.now.board.parts ≡ Option.Some t → is_to_stay t machine.now ≡ true → ⊥) (λ t. (current c machine.now.board.parts ≡ Option.Some t) × (is_to_stay t machine.now ≡ true)) }
+pub(crate) fn staying_on(machine: &Machine<AnyDevice>, cpu: u8) -> Option<u8>
+    ensures { MatchOption result ((t : ℕ) → current cpu machine.now.board.parts ≡ Option.Some t → is_to_stay t machine.now ≡ true → ⊥) (λ t. (current cpu machine.now.board.parts ≡ Option.Some t) × (is_to_stay t machine.now ≡ true)) }
 {
-    let Some(t) = current(machine, c) else {
+    let Some(t) = current(machine, cpu) else {
         return None;
     };
     if !is_out_of_band(machine.task(t)) {
@@ -85,11 +85,11 @@ pub(crate) fn staying_on(machine: &Machine<AnyDevice>, c: u8) -> Option<u8>
 }
 
 /// The failure of a task that was to stay out-of-band.
-pub(crate) fn demoted(machine: &Machine<AnyDevice>, t: u8) -> Option<Failure>
-    ensures { MatchOption result (is_in_band_task (slice_get machine.now.board.parts.tasks t) ≡ true → ⊥) (λ failure. (failure ≡ Failure.Demoted t) × (is_in_band_task (slice_get machine.now.board.parts.tasks t) ≡ true)) }
+pub(crate) fn demoted(machine: &Machine<AnyDevice>, task: u8) -> Option<Failure>
+    ensures { MatchOption result (is_in_band_task (slice_get machine.now.board.parts.tasks task) ≡ true → ⊥) (λ failure. (failure ≡ Failure.Demoted task) × (is_in_band_task (slice_get machine.now.board.parts.tasks task) ≡ true)) }
 {
-    if is_in_band(machine.task(t)) {
-        Some(Failure::Demoted(t))
+    if is_in_band(machine.task(task)) {
+        Some(Failure::Demoted(task))
     } else {
         None
     }

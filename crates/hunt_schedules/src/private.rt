@@ -25,14 +25,14 @@ fn is_private(first: u8, second: u8, third: u8) -> bool {
 
 /// Whether the next step of a processor, which has no line to receive, does an instruction on registers and what sp points to alone: it may
 /// as well come before what other processors do.
-pub(crate) fn is_private_step(machine: &Machine<AnyDevice>, c: u8) -> bool {
-    let Some(wire) = machine.wire(c) else {
+pub(crate) fn is_private_step(machine: &Machine<AnyDevice>, cpu: u8) -> bool {
+    let Some(wire) = machine.wire(cpu) else {
         return false;
     };
     if !wire.is_empty() {
         return false;
     }
-    let Some(t) = current(machine, c) else {
+    let Some(t) = current(machine, cpu) else {
         return false;
     };
     let Some(hart) = machine.hart(t) else {

@@ -47,7 +47,7 @@ pub fn advance(
 {
     let eve = eve_of(machine, event, wanted);
     match machine.apply(event.widen()) {
-        Ok(answer) => Ok(looked(machine, event, answer, &eve, wanted, monitor)),
+        Ok(answer) => Ok(looked(machine, answer, &eve, wanted, monitor)),
         Err(refusal) => Err(refusal),
     }
 }
