@@ -1,14 +1,13 @@
 //! A hunt as a test suite: a case for each kind of failure that is looked for.
 
-use crate::PROGRAM;
 use crate::files::{write_file, write_files};
+use crate::job::HuntJob;
 use crate::words::Options;
-use evm_host::{System, World, memory_refused};
+use evm_host::{System, World};
 use evm_room::{NoMemory, Refused, push_text};
 use hunt_search::{Errors, Found, Wanted};
 use std::alloc::Global;
 use text_markup::{CaseEnd, Suite};
-use text_symbols::Names;
 
 /// The kinds of failures, in the order of their cases.
 const KINDS: [&str; 25] = [
@@ -47,11 +46,9 @@ struct Shown {
 }
 
 /// The failures that were shown, and the files that were written for the first of each kind.
-#[derive(Debug, Drop)]
+#[derive(Drop)]
 pub(crate) struct Cases<'a> {
-    alloc: Global,
-    /// The file of the suite, if there is to be one.
-    path: Option<&'a str>,
+    job: HuntJob<'a>,
     shown: Vec<Shown>,
 }
 
@@ -123,12 +120,16 @@ fn added(done: Result<(), Refused>) -> Result<(), NoMemory> {
 }
 
 impl<'a> Cases<'a> {
-    pub(crate) fn new(alloc: Global, path: Option<&'a str>) -> Cases<'a> {
+    /// No failure was shown.
+    pub(crate) fn new(job: HuntJob<'a>) -> Cases<'a> {
         Cases {
-            alloc,
-            path,
-            shown: Vec::new(alloc),
+            job,
+            shown: Vec::new(job.target.alloc),
         }
+    }
+
+    fn alloc(&self) -> Global {
+        self.job.target.alloc
     }
 
     fn has(&self, kind: &str) -> bool {
@@ -140,29 +141,26 @@ impl<'a> Cases<'a> {
         false
     }
 
-    /// Writes the files of a failure, if it is the first of its kind and there is to be a suite.
+    /// Writes the files of a failure, if it is the first of its kind and there is to be a suite, and returns the status: 0 if they were written.
     ///
     /// # Errors
     ///
-    /// The status, where one can't be created or written.
+    /// Memory was refused.
     pub(crate) fn write_files<S: System>(
         &self,
         kind: &'static str,
         found: &Found,
         seed: u64,
-        names: &Names,
         world: &mut World<S>,
-    ) -> Result<(), u8> {
-        let Some(path) = self.path else {
-            return Ok(());
+    ) -> Result<u8, NoMemory> {
+        let Some(path) = self.job.options.junit else {
+            return Ok(0);
         };
         if self.has(kind) {
-            return Ok(());
+            return Ok(0);
         }
-        match name_of(self.alloc, path, kind) {
-            Ok(name) => write_files(self.alloc, name.as_str(), found, seed, names, world),
-            Err(NoMemory) => Err(memory_refused(PROGRAM, world)),
-        }
+        let name = name_of(self.alloc(), path, kind)?;
+        write_files(&self.job, name.as_str(), found, seed, world)
     }
 
     /// Adds a failure that was shown by a text.
@@ -191,7 +189,7 @@ impl<'a> Cases<'a> {
 
     // All that was shown of a kind.
     fn text(&self, kind: &str) -> Result<String, Refused> {
-        let mut text = String::new(self.alloc);
+        let mut text = String::new(self.alloc());
         for shown in &self.shown {
             if shown.kind == kind {
                 push_text(&mut text, shown.text.as_str())?;
@@ -202,13 +200,13 @@ impl<'a> Cases<'a> {
 
     // The files of a kind.
     fn files(&self, path: &str, kind: &str) -> Result<Vec<String>, NoMemory> {
-        let mut files = Vec::new(self.alloc);
+        let mut files = Vec::new(self.alloc());
         if kind == "order" {
             return Ok(files);
         }
-        let name = name_of(self.alloc, path, kind)?;
+        let name = name_of(self.alloc(), path, kind)?;
         for ending in ["journal", "script"] {
-            let Ok(file) = format!(in self.alloc; "{name}.{ending}") else {
+            let Ok(file) = format!(in self.alloc(); "{name}.{ending}") else {
                 return Err(NoMemory);
             };
             if files.push(file).is_err() {
@@ -221,7 +219,7 @@ impl<'a> Cases<'a> {
     // Adds the case of a kind.
     fn add_case(&self, path: &str, kind: &str, suite: &mut Suite) -> Result<(), NoMemory> {
         if !self.has(kind) {
-            let none = Vec::new(self.alloc);
+            let none = Vec::new(self.alloc());
             return added(suite.add(kind, CaseEnd::Passed, none.as_slice()));
         }
         let files = self.files(path, kind)?;
@@ -233,8 +231,9 @@ impl<'a> Cases<'a> {
     }
 
     // The suite of a hunt.
-    fn suite(&self, path: &str, options: &Options<'_>) -> Result<Vec<u8>, NoMemory> {
-        let Ok(mut suite) = Suite::new(self.alloc, options.image) else {
+    fn suite(&self, path: &str) -> Result<Vec<u8>, NoMemory> {
+        let options = self.job.options;
+        let Ok(mut suite) = Suite::new(self.alloc(), options.image) else {
             return Err(NoMemory);
         };
         for kind in KINDS {
@@ -242,28 +241,22 @@ impl<'a> Cases<'a> {
                 self.add_case(path, kind, &mut suite)?;
             }
         }
-        match suite.written(self.alloc) {
+        match suite.written(self.alloc()) {
             Ok(bytes) => Ok(bytes),
             Err(_) => Err(NoMemory),
         }
     }
 
-    /// Writes the suite, if there is to be one.
+    /// Writes the suite, if there is to be one, and returns the status: 0 if it was written.
     ///
     /// # Errors
     ///
-    /// The status, where it can't be created or written.
-    pub(crate) fn write<S: System>(
-        &self,
-        options: &Options<'_>,
-        world: &mut World<S>,
-    ) -> Result<(), u8> {
-        let Some(path) = self.path else {
-            return Ok(());
+    /// Memory was refused.
+    pub(crate) fn write<S: System>(&self, world: &mut World<S>) -> Result<u8, NoMemory> {
+        let Some(path) = self.job.options.junit else {
+            return Ok(0);
         };
-        match self.suite(path, options) {
-            Ok(bytes) => write_file(path, bytes.as_slice(), world),
-            Err(NoMemory) => Err(memory_refused(PROGRAM, world)),
-        }
+        let bytes = self.suite(path)?;
+        Ok(write_file(path, bytes.as_slice(), world))
     }
 }

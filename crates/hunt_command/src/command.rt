@@ -1,16 +1,16 @@
 //! The word `hunt`, from what stands behind it to the exit status.
 
 use crate::PROGRAM;
-use crate::progress::{HuntClock, HuntProgress};
-use crate::results::{Hunted, tell};
+use crate::job::HuntJob;
+use crate::progress::HuntProgress;
+use crate::results::tell;
 use crate::telling::Telling;
 use crate::words::{Options, Search, WordFault, options_of};
 use clap::ArgMatches;
 use evm_host::{FAILED, Message, System, USAGE, World, image_at, memory_refused, names_at, report};
-use evm_ram::Image;
 use hunt_search::{
-    BeginFault, Boot, HuntStop, Plan, Report, SearchSpan, Switching, Way, first_choices,
-    first_length, hunt, hunt_all,
+    BeginFault, Boot, HuntStop, Plan, Report, Switching, Target, Way, first_choices, first_length,
+    hunt, hunt_all,
 };
 use std::alloc::Global;
 use text_symbols::{Names, Symbols};
@@ -77,113 +77,76 @@ fn boot_of(options: &Options<'_>, names: &Names) -> Boot {
 }
 
 // How a hunt by seeds chooses.
-fn way_of(
-    alloc: Global,
-    options: &Options<'_>,
-    image: &Image,
-    boot: &Boot,
-) -> Result<Way, HuntStop> {
-    let wanted = &options.wanted;
-    match options.search {
+fn way_of(job: &HuntJob<'_>) -> Result<Way, HuntStop> {
+    match job.options.search {
         Search::Random | Search::All(_) => Ok(Way::Random),
         Search::Pct(points) => Ok(Way::Priorities {
             points,
-            length: first_length(alloc, image, boot, wanted)?,
+            length: first_length(&job.target)?,
         }),
         Search::Mixed => Ok(Way::Mixed {
-            length: first_choices(alloc, image, boot, wanted)?,
+            length: first_choices(&job.target)?,
         }),
     }
 }
 
 // Looks at the schedules of the options.
-fn hunt_by<S: System>(
-    alloc: Global,
-    options: &Options<'_>,
-    image: &Image,
-    boot: &Boot,
-    telling: &mut Telling<'_, S>,
-) -> Result<Report, HuntStop> {
+fn hunt_by<S: System>(job: &HuntJob<'_>, telling: &mut Telling<'_, S>) -> Result<Report, HuntStop> {
+    let options = job.options;
     if let Search::All(switches) = options.search {
         let bounds = Switching {
             switches,
             schedules: options.most,
             orders: options.orders,
         };
-        return hunt_all(alloc, image, boot, &options.wanted, &bounds, telling);
+        return hunt_all(&job.target, &bounds, telling);
     }
     let plan = Plan {
-        way: way_of(alloc, options, image, boot)?,
+        way: way_of(job)?,
         first: options.first,
         last: options.last,
         orders: options.orders,
     };
-    hunt(alloc, image, boot, &options.wanted, &plan, telling)
+    hunt(&job.target, &plan, telling)
 }
 
 // Hunts in an image, and shows each failure when it is found.
 fn hunt_in<'a, S: System>(
-    alloc: Global,
-    options: &Options<'_>,
-    image: &Image,
-    names: &'a Names,
-    boot: &Boot,
-    rt: &'a HostRuntime,
-    clock: HuntClock,
+    job: &HuntJob<'a>,
+    progress: HuntProgress<'a>,
     world: &'a mut World<S>,
 ) -> Result<(Report, u8), HuntStop> {
     let mut telling = Telling {
-        alloc,
-        names,
-        seconds: options.seconds,
-        rt,
-        clock,
+        job: *job,
+        progress,
         world,
-        status: 0,
+        told: Ok(0),
     };
-    let report = hunt_by(alloc, options, image, boot, &mut telling)?;
-    let status = telling.status;
-    telling.clock.clear(telling.rt);
+    let hunted = hunt_by(job, &mut telling);
+    telling.progress.clock.clear(telling.progress.rt);
+    let report = hunted?;
+    let status = telling.told?;
     Ok((report, status))
 }
 
 // Hunts in an image, and shows what it comes to.
 fn hunt_and_tell<S: System>(
-    alloc: Global,
-    options: &Options<'_>,
-    image: &Image,
-    names: &Names,
-    rt: &HostRuntime,
-    clock: HuntClock,
+    job: &HuntJob<'_>,
+    progress: HuntProgress<'_>,
     world: &mut World<S>,
 ) -> Result<u8, HuntStop> {
-    let boot = boot_of(options, names);
-    let (report, status) = hunt_in(alloc, options, image, names, &boot, rt, clock, world)?;
+    let (report, status) = hunt_in(job, progress, world)?;
     if status != 0 {
         return Ok(status);
     }
-    let span = match options.search {
-        Search::All(switches) => SearchSpan::Switches(switches),
-        Search::Mixed | Search::Random | Search::Pct(_) => SearchSpan::Seeds(options.first),
-    };
-    let hunted = Hunted {
-        alloc,
-        options,
-        image,
-        boot: &boot,
-        names,
-        report: &report,
-        span,
-    };
-    tell(&hunted, world)
+    tell(job, &report, world)
 }
 
 // Hunts by the options.
 fn hunt_with<S: System>(
     alloc: Global,
     options: &Options<'_>,
-    rt: &HostRuntime,
-    clock: HuntClock,
+    progress: HuntProgress<'_>,
     world: &mut World<S>,
 ) -> u8 {
     let image = match image_at(alloc, options.image, world) {
@@ -194,7 +157,18 @@ fn hunt_with<S: System>(
         Ok(names) => names,
         Err(status) => return status,
     };
-    match hunt_and_tell(alloc, options, &image, &names, rt, clock, world) {
+    let boot = boot_of(options, &names);
+    let job = HuntJob {
+        options,
+        target: Target {
+            alloc,
+            image: &image,
+            boot: &boot,
+            wanted: &options.wanted,
+        },
+        names: &names,
+    };
+    match hunt_and_tell(&job, progress, world) {
         Ok(status) => status,
         Err(stop) => stopped(options.image, stop, world),
     }
@@ -216,5 +190,5 @@ pub fn hunt_for<S: System>(
         report(PROGRAM, message, &mut world.errors);
         return FAILED;
     }
-    hunt_with(alloc, &options, progress.rt, progress.clock, world)
+    hunt_with(alloc, &options, *progress, world)
 }

@@ -5,6 +5,7 @@
 mod cases;
 mod command;
 mod files;
+mod job;
 mod progress;
 mod results;
 mod telling;

@@ -3,123 +3,100 @@
 use crate::PROGRAM;
 use crate::cases::Cases;
 use crate::files::write_files;
-use crate::words::Options;
-use evm_host::{Message, System, World, memory_refused, report as report_message, show};
+use crate::job::HuntJob;
+use crate::words::{Options, Search};
+use evm_host::{Message, System, World, report as report_message, show};
 use evm_lines::{LINES, LineSet};
-use evm_ram::Image;
 use evm_room::NoMemory;
 use evm_streams::Numeral;
 use hunt_search::{
-    Boot, Found, HuntStop, Report, Row, SearchSpan, counts_text, row_text, schedule_text, shortest,
+    Found, HuntStop, Report, Row, SearchSpan, counts_text, row_text, schedule_text, shortest,
 };
-use std::alloc::Global;
-use text_symbols::Names;
 
 /// The status of a hunt that has found a failure.
 const FOUND: u8 = 1;
 
-/// A hunt that has ended.
-#[derive(Clone, Copy)]
-pub(crate) struct Hunted<'a> {
-    pub(crate) alloc: Global,
-    pub(crate) options: &'a Options<'a>,
-    pub(crate) image: &'a Image,
-    pub(crate) boot: &'a Boot,
-    pub(crate) names: &'a Names,
-    pub(crate) report: &'a Report,
-    pub(crate) span: SearchSpan,
+/// What a hunt shows of its failures.
+#[derive(Drop)]
+struct Results<'a> {
+    job: HuntJob<'a>,
+    cases: Cases<'a>,
+    /// The fewest events of a machine so far.
+    fewest: u64,
 }
 
 // The first of two statuses that isn't 0.
-fn worse(status: u8, done: Result<(), u8>) -> u8 {
-    match done {
-        Err(failed) if status == 0 => failed,
-        _ => status,
-    }
+fn first_failed(status: u8, next: u8) -> u8 {
+    if status == 0 { next } else { status }
 }
 
-// Writes a text and keeps it.
-fn tell_text<S: System>(
-    text: Result<String, NoMemory>,
-    row: &Row,
-    cases: &mut Cases<'_>,
-    world: &mut World<S>,
-) -> Result<(), u8> {
-    let Ok(text) = text else {
-        return Err(memory_refused(PROGRAM, world));
-    };
-    let status = show(PROGRAM, text.as_str(), world);
-    if cases.add(row.key.kind, text).is_err() {
-        return Err(memory_refused(PROGRAM, world));
-    }
-    if status == 0 { Ok(()) } else { Err(status) }
-}
-
-// Writes the journal and the script of a machine, if it has the fewest events so far.
-fn write_fewest<S: System>(
-    hunted: &Hunted<'_>,
-    found: &Found,
-    seed: u64,
-    fewest: &mut u64,
-    world: &mut World<S>,
-) -> Result<(), u8> {
-    let events = found.machine.event_count();
-    if events >= *fewest {
-        return Ok(());
-    }
-    *fewest = events;
-    match hunted.options.out {
-        Some(name) => write_files(hunted.alloc, name, found, seed, hunted.names, world),
-        None => Ok(()),
-    }
-}
-
-// Shows a machine that has failed.
-fn tell_found<S: System>(
-    hunted: &Hunted<'_>,
-    found: &Found,
-    row: &Row,
-    fewest: &mut u64,
-    cases: &mut Cases<'_>,
-    world: &mut World<S>,
-) -> u8 {
-    let kind = row.key.kind;
-    let mut status = worse(0, write_fewest(hunted, found, row.seed, fewest, world));
-    status = worse(
-        status,
-        cases.write_files(kind, found, row.seed, hunted.names, world),
-    );
-    let text = schedule_text(hunted.alloc, found, row.seed, hunted.names);
-    worse(status, tell_text(text, row, cases, world))
-}
-
-// Shows a failure by its shortest schedule.
-fn tell_row<S: System>(
-    hunted: &Hunted<'_>,
-    row: &Row,
-    fewest: &mut u64,
-    cases: &mut Cases<'_>,
-    world: &mut World<S>,
-) -> Result<u8, HuntStop> {
-    let options = hunted.options;
-    match shortest(
-        hunted.alloc,
-        hunted.image,
-        hunted.boot,
-        &options.wanted,
-        row,
-    ) {
-        Ok(Some(found)) => Ok(tell_found(hunted, &found, row, fewest, cases, world)),
-        Ok(None) => {
-            let text = row_text(hunted.alloc, row, hunted.names);
-            if let Ok(text) = text
-                && cases.add(row.key.kind, text).is_ok()
-            {
-                return Ok(0);
-            }
-            Err(HuntStop::NoMemory)
+impl<'a> Results<'a> {
+    // Nothing was shown.
+    fn new(job: HuntJob<'a>) -> Results<'a> {
+        Results {
+            job,
+            cases: Cases::new(job),
+            fewest: u64::MAX,
         }
-        Err(stop) => Err(stop),
+    }
+
+    // Writes a text and keeps it; the status.
+    fn tell_text<S: System>(
+        &mut self,
+        text: String,
+        row: &Row,
+        world: &mut World<S>,
+    ) -> Result<u8, NoMemory> {
+        let status = show(PROGRAM, text.as_str(), world);
+        self.cases.add(row.key.kind, text)?;
+        Ok(status)
+    }
+
+    // Writes the journal and the script of a machine, if it has the fewest events so far; the status.
+    fn write_fewest<S: System>(
+        &mut self,
+        found: &Found,
+        seed: u64,
+        world: &mut World<S>,
+    ) -> Result<u8, NoMemory> {
+        let events = found.machine.event_count();
+        if events >= self.fewest {
+            return Ok(0);
+        }
+        self.fewest = events;
+        match self.job.options.out {
+            Some(name) => write_files(&self.job, name, found, seed, world),
+            None => Ok(0),
+        }
+    }
+
+    // Shows a machine that has failed; the status.
+    fn tell_found<S: System>(
+        &mut self,
+        found: &Found,
+        row: &Row,
+        world: &mut World<S>,
+    ) -> Result<u8, NoMemory> {
+        let alloc = self.job.target.alloc;
+        let kind = row.key.kind;
+        let mut status = self.write_fewest(found, row.seed, world)?;
+        let written = self.cases.write_files(kind, found, row.seed, world)?;
+        status = first_failed(status, written);
+        let text = schedule_text(alloc, found, row.seed, self.job.names)?;
+        let told = self.tell_text(text, row, world)?;
+        Ok(first_failed(status, told))
+    }
+
+    // Shows a failure by its shortest schedule; the status.
+    fn tell_row<S: System>(&mut self, row: &Row, world: &mut World<S>) -> Result<u8, HuntStop> {
+        match shortest(&self.job.target, row)? {
+            Some(found) => Ok(self.tell_found(&found, row, world)?),
+            None => {
+                let text = row_text(self.job.target.alloc, row, self.job.names)?;
+                self.cases.add(row.key.kind, text)?;
+                Ok(0)
+            }
+        }
     }
 }
 
@@ -139,30 +116,35 @@ fn tell_asked<S: System>(asked: LineSet, world: &mut World<S>) {
     }
 }
 
-/// Shows what a hunt came to, and returns the status.
-pub(crate) fn tell<S: System>(hunted: &Hunted<'_>, world: &mut World<S>) -> Result<u8, HuntStop> {
-    let report = hunted.report;
-    let options = hunted.options;
-    let mut status = 0;
-    let mut fewest = u64::MAX;
-    let mut cases = Cases::new(hunted.alloc, options.junit);
-    for row in &report.rows {
-        let told = tell_row(hunted, row, &mut fewest, &mut cases, world)?;
-        if status == 0 {
-            status = told;
-        }
+// Which schedules the words ask for.
+fn span_of(options: &Options<'_>) -> SearchSpan {
+    match options.search {
+        Search::All(switches) => SearchSpan::Switches(switches),
+        Search::Mixed | Search::Random | Search::Pct(_) => SearchSpan::Seeds(options.first),
     }
-    status = worse(status, cases.write(options, world));
-    if options.wanted.lines.is_empty() {
+}
+
+/// Shows what a hunt came to, and returns the status.
+///
+/// # Errors
+///
+/// Memory was refused: nothing more is shown.
+pub(crate) fn tell<S: System>(
+    job: &HuntJob<'_>,
+    report: &Report,
+    world: &mut World<S>,
+) -> Result<u8, HuntStop> {
+    let mut results = Results::new(*job);
+    let mut status = 0;
+    for row in &report.rows {
+        status = first_failed(status, results.tell_row(row, world)?);
+    }
+    status = first_failed(status, results.cases.write(world)?);
+    if job.options.wanted.lines.is_empty() {
         tell_asked(report.asked, world);
     }
-    let Ok(text) = counts_text(hunted.alloc, report, hunted.span) else {
-        return Err(HuntStop::NoMemory);
-    };
-    let shown = show(PROGRAM, text.as_str(), world);
-    if status == 0 {
-        status = shown;
-    }
+    let text = counts_text(job.target.alloc, report, span_of(job.options))?;
+    status = first_failed(status, show(PROGRAM, text.as_str(), world));
     if status == 0 && !report.rows.is_empty() {
         status = FOUND;
     }

@@ -21,7 +21,7 @@ pub use evm_devs::{AnyDevice, program_devices};
 pub use evm_model::{CAPACITY_LIMIT, Event, NoBytes};
 pub use evm_ram::SIZE_LIMIT;
 pub use ordering::{Cycle, Orders};
-pub use queue::Queue;
+pub use queue::{Queue, Ways};
 pub use running::{RunOutcome, advance, play, run_schedule};
 pub use schedule::{
     EventList, Stretch, Stretches, event_count, events_of, push_stretch, schedule_of,

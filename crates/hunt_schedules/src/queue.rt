@@ -21,6 +21,17 @@ pub struct Queue {
     pub cut: bool,
 }
 
+/// Which ways a branch may go.
+#[derive(Clone, Copy)]
+pub struct Ways<'a> {
+    /// The processors that may step.
+    pub awake: &'a [u8],
+    /// How many processors there are.
+    pub cpus: u8,
+    /// The lines that may be raised on each of them.
+    pub lines: LineSet,
+}
+
 impl Queue {
     /// The root alone.
     ///
@@ -162,19 +173,12 @@ impl Queue {
     /// # Errors
     ///
     /// Memory was refused.
-    pub fn fork_all(
-        &mut self,
-        branch: &Branch,
-        steps: u32,
-        awake: &[u8],
-        cpus: u8,
-        lines: LineSet,
-    ) -> Result<(), NoMemory>
+    pub fn fork_all(&mut self, branch: &Branch, steps: u32, ways: &Ways<'_>) -> Result<(), NoMemory>
         ensures keeps { KeepsBranches self.old.branches.items self.new.branches.items }
         ensures cut { self.new.cut ≡ false → self.old.cut ≡ false }
-        ensures has { OnOk result (self.new.cut ≡ false → HasSwitches self.new.branches.items branch.now steps awake.now cpus lines) }
+        ensures has { OnOk result (self.new.cut ≡ false → HasSwitches self.new.branches.items branch.now steps ways.now.awake.now ways.now.cpus ways.now.lines) }
     {
-        match self.fork_steps(branch, steps, awake) {
+        match self.fork_steps(branch, steps, ways.awake) {
             Ok(()) => {}
             Err(fault) => return Err(fault),
         }
@@ -182,7 +186,7 @@ impl Queue {
             Ok(()) => {}
             Err(fault) => return Err(fault),
         }
-        match self.fork_lines(branch, steps, cpus, lines) {
+        match self.fork_lines(branch, steps, ways.cpus, ways.lines) {
             Ok(()) => Ok(()),
             Err(fault) => Err(fault),
         }

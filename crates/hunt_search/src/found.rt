@@ -5,13 +5,12 @@ ghost use Rattle.hunt_schedules.specs.Runs.{IsFound};
 
 use crate::hunting::Row;
 use crate::shortening::shorten;
-use evm_ram::Image;
-use hunt_failures::{Failure, Wanted};
+use crate::target::Target;
+use hunt_failures::Failure;
 use hunt_schedules::{
-    AnyDevice, BeginFault, Boot, Event, EventList, HuntStop, Machine, NoBytes, RunOutcome, begin,
+    AnyDevice, BeginFault, Event, EventList, HuntStop, Machine, NoBytes, RunOutcome, begin,
     events_of, play, push_stretch,
 };
-use std::alloc::Global;
 
 /// A machine that has failed.
 #[derive(Debug, Drop)]
@@ -27,36 +26,24 @@ pub struct Found {
 /// # Errors
 ///
 /// Why there is no machine.
-pub fn replayed(
-    alloc: Global,
-    image: &Image,
-    boot: &Boot,
-    events: &[Event<NoBytes>],
-    wanted: &Wanted,
-) -> Result<Option<Found>, BeginFault>
-    ensures { IfOk result (λ found. IfSome found (λ found. IsFound image.now boot.now wanted.now.lines found.failure found.machine)) }
+pub fn replayed(target: &Target<'_>, events: &[Event<NoBytes>]) -> Result<Option<Found>, BeginFault>
+    ensures { IfOk result (λ found. IfSome found (λ found. IsFound target.now.image.now target.now.boot.now target.now.wanted.now.lines found.failure found.machine)) }
 {
-    let mut machine = begin(alloc, image, boot)?;
-    match play(&mut machine, events, wanted) {
+    let mut machine = begin(target.alloc, target.image, target.boot)?;
+    match play(&mut machine, events, target.wanted) {
         RunOutcome::Failed(failure) => Ok(Some(Found { machine, failure })),
         RunOutcome::Over | RunOutcome::Full => Ok(None),
     }
 }
 
 // The events of a shorter schedule that fails as a row says.
-fn shortened(
-    alloc: Global,
-    image: &Image,
-    boot: &Boot,
-    wanted: &Wanted,
-    row: &Row,
-) -> Result<EventList, HuntStop> {
-    let mut schedule = Vec::new(alloc);
+fn shortened(target: &Target<'_>, row: &Row) -> Result<EventList, HuntStop> {
+    let mut schedule = Vec::new(target.alloc);
     for stretch in &row.schedule {
         push_stretch(&mut schedule, *stretch)?;
     }
-    let shorter = shorten(alloc, image, boot, wanted, &row.key, schedule)?;
-    Ok(events_of(alloc, shorter.as_slice())?)
+    let shorter = shorten(target, &row.key, schedule)?;
+    Ok(events_of(target.alloc, shorter.as_slice())?)
 }
 
 /// The machine of a row, by a shorter schedule; None of two locks that close a cycle, which no machine shows.
@@ -64,20 +51,14 @@ fn shortened(
 /// # Errors
 ///
 /// Memory was refused.
-pub fn shortest(
-    alloc: Global,
-    image: &Image,
-    boot: &Boot,
-    wanted: &Wanted,
-    row: &Row,
-) -> Result<Option<Found>, HuntStop>
-    ensures { IfOk result (λ found. IfSome found (λ found. IsFound image.now boot.now wanted.now.lines found.failure found.machine)) }
+pub fn shortest(target: &Target<'_>, row: &Row) -> Result<Option<Found>, HuntStop>
+    ensures { IfOk result (λ found. IfSome found (λ found. IsFound target.now.image.now target.now.boot.now target.now.wanted.now.lines found.failure found.machine)) }
 {
     if row.failure.is_none() {
         return Ok(None);
     }
-    let events = shortened(alloc, image, boot, wanted, row)?;
-    match replayed(alloc, image, boot, events.as_slice(), wanted) {
+    let events = shortened(target, row)?;
+    match replayed(target, events.as_slice()) {
         Ok(found) => Ok(found),
         Err(fault) => Err(HuntStop::from(fault)),
     }

@@ -14,14 +14,11 @@ ghost use Rattle.hunt_schedules.specs.Searches.{HasWalked, IsPassed};
 ghost use Rattle.hunt_schedules.specs.Walks.{IsReached};
 
 use crate::seeing::is_seen;
-use crate::switching::Switching;
 use crate::tracking::Tracker;
+use crate::trial::{Position, Trial};
 use crate::walking::go_on_once;
-use evm_ram::Image;
-use hunt_failures::Wanted;
-use hunt_schedules::{AnyDevice, BeginFault, Boot, Branch, HuntStop, Machine, Queue, RunOutcome};
+use hunt_schedules::{AnyDevice, BeginFault, HuntStop, Machine, Queue, RunOutcome};
 use hunt_states::{StateMark, StateMarks, hash_of};
-use std::alloc::Global;
 
 /// How a branch has ended, and at how many states it went on.
 #[derive(Clone, Copy, Debug)]
@@ -32,51 +29,38 @@ pub(crate) struct Walk {
 
 // The mark of a state, if one of its hash was passed; else it is marked.
 fn mark_of(
-    machine: &Machine<AnyDevice>,
-    branch: &Branch,
-    steps: u32,
-    wanted: &Wanted,
-    tracker: &Tracker,
-    place: usize,
+    trial: &Trial<'_>,
+    position: &Position<'_>,
     marks: &mut StateMarks,
 ) -> Option<StateMark> {
-    if steps == 0 {
+    if position.steps == 0 {
         marks.begin();
     }
-    if !wanted.looks_at_states() || marks.has_too_many_misses() {
+    if !trial.target.wanted.looks_at_states() || marks.has_too_many_misses() {
         return None;
     }
-    let hash = hash_of(machine, branch.cpu, &tracker.trail);
+    let hash = hash_of(position.machine, trial.branch.cpu, &position.trail);
     let mark = marks.find(hash);
     if mark.is_none() {
-        marks.add(hash, place as u64, steps);
+        marks.add(hash, trial.walked.len() as u64, position.steps);
     }
     mark
 }
 
 // Whether a state, which the last branch has reached by some steps, is covered by one that the search has passed.
 fn is_covered(
-    alloc: Global,
-    image: &Image,
-    boot: &Boot,
-    machine: &Machine<AnyDevice>,
-    branch: &Branch,
-    steps: u32,
-    wanted: &Wanted,
-    tracker: &Tracker,
+    trial: &Trial<'_>,
+    position: &Position<'_>,
     queue: &Queue,
-    walked: &[u32],
     marks: &mut StateMarks,
 ) -> Result<bool, BeginFault>
-    requires { (first : State) → Begins image.now boot.now first → IsReached first branch.now steps machine.now }
-    ensures { IfOk result (λ covered. covered ≡ true → (first : State) → Begins image.now boot.now first → IsCovered (IsPassed first queue.now.branches.items (walked.now ++ steps ∷ [])) machine.now branch.now.cpu (length branch.now.turns.items)) }
+    requires { (first : State) → Begins trial.now.target.image.now trial.now.target.boot.now first → IsReached first trial.now.branch.now position.now.steps position.now.machine.now }
+    ensures { IfOk result (λ covered. covered ≡ true → (first : State) → Begins trial.now.target.image.now trial.now.target.boot.now first → IsCovered (IsPassed first queue.now.branches.items (trial.now.walked.now ++ position.now.steps ∷ [])) position.now.machine.now trial.now.branch.now.cpu (length trial.now.branch.now.turns.items)) }
 {
-    let Some(mark) = mark_of(machine, branch, steps, wanted, tracker, walked.len(), marks) else {
+    let Some(mark) = mark_of(trial, position, marks) else {
         return Ok(false);
     };
-    match is_seen(
-        alloc, image, boot, wanted, machine, branch, steps, queue, walked, mark,
-    ) {
+    match is_seen(trial, position, queue, mark) {
         Ok(true) => Ok(true),
         Ok(false) => {
             marks.miss();
@@ -93,30 +77,27 @@ fn is_covered(
 ///
 /// Memory was refused.
 pub(crate) fn go_on(
-    alloc: Global,
-    image: &Image,
-    boot: &Boot,
+    trial: &Trial<'_>,
     machine: &mut Machine<AnyDevice>,
-    branch: &Branch,
-    wanted: &Wanted,
     tracker: &mut Tracker,
-    bounds: &Switching,
     queue: &mut Queue,
-    walked: &[u32],
     marks: &mut StateMarks,
 ) -> Result<Walk, HuntStop>
-    requires begins { (first : State) → Begins image.now boot.now first → IsReached first branch.now 0 machine.old }
-    requires there { slice_get queue.old.branches.items (length walked.now) ≡ Option.Some branch.now }
+    requires begins { (first : State) → Begins trial.now.target.image.now trial.now.target.boot.now first → IsReached first trial.now.branch.now 0 machine.old }
+    requires there { slice_get queue.old.branches.items (length trial.now.walked.now) ≡ Option.Some trial.now.branch.now }
     ensures keeps { KeepsBranches queue.old.branches.items queue.new.branches.items }
     ensures cut { queue.new.cut ≡ false → queue.old.cut ≡ false }
-    ensures ends { IfOk result (λ walk. Ends wanted.now.lines walk.outcome machine.new) }
-    ensures walks { IfOk result (λ walk. is_failed walk.outcome ≡ false → queue.new.cut ≡ false → (first : State) → Begins image.now boot.now first → HasWalked (MayMake wanted.now.lines) (FailsAsWanted wanted.now) first bounds.now.switches queue.new.branches.items walked.now branch.now walk.steps machine.old) }
+    ensures ends { IfOk result (λ walk. Ends trial.now.target.wanted.now.lines walk.outcome machine.new) }
+    ensures walks { IfOk result (λ walk. is_failed walk.outcome ≡ false → queue.new.cut ≡ false → (first : State) → Begins trial.now.target.image.now trial.now.target.boot.now first → HasWalked (MayMake trial.now.target.wanted.now.lines) (FailsAsWanted trial.now.target.wanted.now) first trial.now.switches queue.new.branches.items trial.now.walked.now trial.now.branch.now walk.steps machine.old) }
     ensures replays { (first : State) → IsReplayOf first machine.old → IsReplayOf first machine.new }
 {
     'steps: for steps in 0..u32::MAX {
-        match is_covered(
-            alloc, image, boot, machine, branch, steps, wanted, tracker, queue, walked, marks,
-        ) {
+        let position = Position {
+            machine,
+            trail: tracker.trail,
+            steps,
+        };
+        match is_covered(trial, &position, queue, marks) {
             Ok(true) => {
                 return Ok(Walk {
                     outcome: RunOutcome::Over,
@@ -126,7 +107,7 @@ pub(crate) fn go_on(
             Ok(false) => {}
             Err(fault) => return Err(HuntStop::from(fault)),
         }
-        match go_on_once(machine, branch, steps, wanted, tracker, bounds, queue) {
+        match go_on_once(trial, machine, steps, tracker, queue) {
             Ok(None) => {}
             Ok(Some(outcome)) => {
                 return Ok(Walk {

@@ -9,12 +9,12 @@ ghost use Rattle.hunt_search.specs.Searches.{is_failed};
 use crate::asking::add_asked;
 use crate::key::FailureKey;
 use crate::onlooker::Onlooker;
+use crate::target::Target;
 use evm_lines::LineSet;
-use evm_ram::Image;
 use evm_room::NoMemory;
-use hunt_failures::{Failure, Wanted};
+use hunt_failures::Failure;
 use hunt_schedules::{
-    AnyDevice, Boot, Chooser, Cycle, HuntStop, Machine, Orders, RunOutcome, Stretches, Way, begin,
+    AnyDevice, Chooser, Cycle, HuntStop, Machine, Orders, RunOutcome, Stretches, Way, begin,
     run_schedule, schedule_of,
 };
 use std::alloc::Global;
@@ -39,6 +39,15 @@ pub enum SearchSpan {
     Seeds(u64),
     /// Those with at most this number of switches.
     Switches(u8),
+}
+
+/// A schedule that was looked at: the machine that it has made, and how it ended.
+#[derive(Clone, Copy)]
+pub(crate) struct Run<'a> {
+    /// The seed, or the number of the schedule.
+    pub(crate) seed: u64,
+    pub(crate) machine: &'a Machine<AnyDevice>,
+    pub(crate) outcome: RunOutcome,
 }
 
 /// A failure, once for each kind and place.
@@ -106,15 +115,15 @@ impl Report {
     }
 
     // Counts a schedule.
-    fn count(&mut self, machine: &Machine<AnyDevice>, outcome: RunOutcome)
+    fn count(&mut self, run: &Run<'_>)
         ensures { self.new.rows ≡ self.old.rows }
     {
         self.schedules = self.schedules.saturating_add(1);
-        self.events = self.events.saturating_add(machine.event_count());
-        if let RunOutcome::Full = outcome {
+        self.events = self.events.saturating_add(run.machine.event_count());
+        if let RunOutcome::Full = run.outcome {
             self.full = self.full.saturating_add(1);
         }
-        add_asked(machine, &mut self.asked);
+        add_asked(run.machine, &mut self.asked);
     }
 
     /// Says whether there were more schedules than may be looked at.
@@ -138,23 +147,17 @@ impl Report {
 }
 
 // The row of a schedule that has failed.
-fn row_of(
-    alloc: Global,
-    machine: &Machine<AnyDevice>,
-    failure: Failure,
-    key: FailureKey,
-    seed: u64,
-) -> Result<Row, NoMemory>
+fn row_of(alloc: Global, run: &Run<'_>, failure: Failure, key: FailureKey) -> Result<Row, NoMemory>
     ensures { IfOk result (λ row. row.failure ≡ Option.Some failure) }
 {
-    match schedule_of(alloc, machine) {
+    match schedule_of(alloc, run.machine) {
         Ok(schedule) => Ok(Row {
             key,
             failure: Some(failure),
             other: None,
-            seed,
+            seed: run.seed,
             schedule,
-            events: machine.event_count(),
+            events: run.machine.event_count(),
         }),
         Err(NoMemory) => Err(NoMemory),
     }
@@ -179,30 +182,26 @@ fn cycle_row(alloc: Global, cycle: Cycle, events: u64, seed: u64) -> Row
 
 // Adds the orders of the locks of a schedule, if they are looked at.
 fn add_orders<O: Onlooker>(
-    alloc: Global,
-    image: &Image,
-    boot: &Boot,
-    wanted: &Wanted,
-    seed: u64,
-    machine: &Machine<AnyDevice>,
+    target: &Target<'_>,
+    run: &Run<'_>,
     report: &mut Report,
     onlooker: &mut O,
 ) -> Result<(), HuntStop>
-    requires { AreFound image.now boot.now wanted.now.lines report.old.rows.items }
-    ensures found { OnOk result (AreFound image.now boot.now wanted.now.lines report.new.rows.items) }
+    requires { AreFound target.now.image.now target.now.boot.now target.now.wanted.now.lines report.old.rows.items }
+    ensures found { OnOk result (AreFound target.now.image.now target.now.boot.now target.now.wanted.now.lines report.new.rows.items) }
     ensures rows { OnOk result (report.new.rows.items ≡ [] → report.old.rows.items ≡ []) }
 {
     let Some(mut orders) = report.orders.take() else {
         return Ok(());
     };
-    let closed = orders.add_run(alloc, image, boot, machine);
+    let closed = orders.add_run(target.alloc, target.image, target.boot, run.machine);
     report.orders = Some(orders);
     let (cycle, events) = match closed {
         Ok(Some(closed)) => closed,
         Ok(None) => return Ok(()),
         Err(stop) => return Err(stop),
     };
-    let row = cycle_row(alloc, cycle, events, seed);
+    let row = cycle_row(target.alloc, cycle, events, run.seed);
     if report.knows(&row.key) {
         return Ok(());
     }
@@ -211,26 +210,22 @@ fn add_orders<O: Onlooker>(
 
 // Adds the failure of a schedule, if it is new.
 fn add_failure<O: Onlooker>(
-    alloc: Global,
-    image: &Image,
-    boot: &Boot,
-    wanted: &Wanted,
-    seed: u64,
-    machine: &Machine<AnyDevice>,
+    target: &Target<'_>,
+    run: &Run<'_>,
     failure: Failure,
     report: &mut Report,
     onlooker: &mut O,
 ) -> Result<(), HuntStop>
-    requires found { AreFound image.now boot.now wanted.now.lines report.old.rows.items }
-    requires failed { IsFound image.now boot.now wanted.now.lines failure machine.now }
-    ensures found { OnOk result (AreFound image.now boot.now wanted.now.lines report.new.rows.items) }
+    requires found { AreFound target.now.image.now target.now.boot.now target.now.wanted.now.lines report.old.rows.items }
+    requires failed { IsFound target.now.image.now target.now.boot.now target.now.wanted.now.lines failure run.now.machine.now }
+    ensures found { OnOk result (AreFound target.now.image.now target.now.boot.now target.now.wanted.now.lines report.new.rows.items) }
     ensures some { OnOk result (report.new.rows.items ≡ [] → ⊥) }
 {
-    let key = FailureKey::of(machine, failure);
+    let key = FailureKey::of(run.machine, failure);
     if report.knows(&key) {
         return Ok(());
     }
-    match row_of(alloc, machine, failure, key, seed) {
+    match row_of(target.alloc, run, failure, key) {
         Ok(row) => report.add(row, onlooker),
         Err(fault) => Err(HuntStop::from(fault)),
     }
@@ -238,55 +233,48 @@ fn add_failure<O: Onlooker>(
 
 /// Adds what a schedule came to.
 pub(crate) fn note<O: Onlooker>(
-    alloc: Global,
-    image: &Image,
-    boot: &Boot,
-    wanted: &Wanted,
-    seed: u64,
-    machine: &Machine<AnyDevice>,
-    outcome: RunOutcome,
+    target: &Target<'_>,
+    run: &Run<'_>,
     report: &mut Report,
     onlooker: &mut O,
 ) -> Result<(), HuntStop>
-    requires found { AreFound image.now boot.now wanted.now.lines report.old.rows.items }
-    requires ended { ComesFrom image.now boot.now machine.now × Ends wanted.now.lines outcome machine.now }
-    ensures found { OnOk result (AreFound image.now boot.now wanted.now.lines report.new.rows.items) }
+    requires found { AreFound target.now.image.now target.now.boot.now target.now.wanted.now.lines report.old.rows.items }
+    requires ended { ComesFrom target.now.image.now target.now.boot.now run.now.machine.now × Ends target.now.wanted.now.lines run.now.outcome run.now.machine.now }
+    ensures found { OnOk result (AreFound target.now.image.now target.now.boot.now target.now.wanted.now.lines report.new.rows.items) }
     ensures rows { OnOk result (report.new.rows.items ≡ [] → report.old.rows.items ≡ []) }
-    ensures none { OnOk result (report.new.rows.items ≡ [] → is_failed outcome ≡ false) }
+    ensures none { OnOk result (report.new.rows.items ≡ [] → is_failed run.now.outcome ≡ false) }
 {
-    report.count(machine, outcome);
-    add_orders(alloc, image, boot, wanted, seed, machine, report, onlooker)?;
-    match outcome {
-        RunOutcome::Failed(failure) => add_failure(
-            alloc, image, boot, wanted, seed, machine, failure, report, onlooker,
-        ),
+    report.count(run);
+    add_orders(target, run, report, onlooker)?;
+    match run.outcome {
+        RunOutcome::Failed(failure) => add_failure(target, run, failure, report, onlooker),
         RunOutcome::Over | RunOutcome::Full => Ok(()),
     }
 }
 
 // The schedule of a seed.
 fn look<O: Onlooker>(
-    alloc: Global,
-    image: &Image,
-    boot: &Boot,
-    wanted: &Wanted,
+    target: &Target<'_>,
     way: Way,
     seed: u64,
     report: &mut Report,
     onlooker: &mut O,
 ) -> Result<(), HuntStop>
-    requires { AreFound image.now boot.now wanted.now.lines report.old.rows.items }
-    ensures { OnOk result (AreFound image.now boot.now wanted.now.lines report.new.rows.items) }
+    requires { AreFound target.now.image.now target.now.boot.now target.now.wanted.now.lines report.old.rows.items }
+    ensures { OnOk result (AreFound target.now.image.now target.now.boot.now target.now.wanted.now.lines report.new.rows.items) }
 {
-    let mut machine = match begin(alloc, image, boot) {
+    let mut machine = match begin(target.alloc, target.image, target.boot) {
         Ok(machine) => machine,
         Err(fault) => return Err(HuntStop::from(fault)),
     };
-    let mut chooser = Chooser::new(seed, way, wanted.lines);
-    let outcome = run_schedule(&mut machine, &mut chooser, wanted);
-    note(
-        alloc, image, boot, wanted, seed, &machine, outcome, report, onlooker,
-    )
+    let mut chooser = Chooser::new(seed, way, target.wanted.lines);
+    let outcome = run_schedule(&mut machine, &mut chooser, target.wanted);
+    let run = Run {
+        seed,
+        machine: &machine,
+        outcome,
+    };
+    note(target, &run, report, onlooker)
 }
 
 /// Looks at the schedules of a plan, at least at one, until the onlooker ends the hunt: each failure once by its kind and place.
@@ -295,28 +283,16 @@ fn look<O: Onlooker>(
 ///
 /// Memory was refused, or no machine boots with the image.
 pub fn hunt<O: Onlooker>(
-    alloc: Global,
-    image: &Image,
-    boot: &Boot,
-    wanted: &Wanted,
+    target: &Target<'_>,
     plan: &Plan,
     onlooker: &mut O,
 ) -> Result<Report, HuntStop>
     // each failure is one of a machine that was booted with the image
-    ensures { IfOk result (λ report. AreFound image.now boot.now wanted.now.lines report.rows.items) }
+    ensures { IfOk result (λ report. AreFound target.now.image.now target.now.boot.now target.now.wanted.now.lines report.rows.items) }
 {
-    let mut report = Report::new(alloc, plan.orders);
+    let mut report = Report::new(target.alloc, plan.orders);
     'seeds: for seed in plan.first..=plan.last {
-        look(
-            alloc,
-            image,
-            boot,
-            wanted,
-            plan.way,
-            seed,
-            &mut report,
-            onlooker,
-        )?;
+        look(target, plan.way, seed, &mut report, onlooker)?;
         if !onlooker.goes_on(report.schedules, report.rows.len() as u64) {
             return Ok(report);
         }
@@ -330,15 +306,10 @@ pub fn hunt<O: Onlooker>(
 /// # Errors
 ///
 /// Why there is no machine.
-pub fn first_choices(
-    alloc: Global,
-    image: &Image,
-    boot: &Boot,
-    wanted: &Wanted,
-) -> Result<u32, HuntStop> {
-    let mut machine = begin(alloc, image, boot)?;
-    let mut chooser = Chooser::new(0, Way::Mixed { length: 0 }, wanted.lines);
-    run_schedule(&mut machine, &mut chooser, wanted);
+pub fn first_choices(target: &Target<'_>) -> Result<u32, HuntStop> {
+    let mut machine = begin(target.alloc, target.image, target.boot)?;
+    let mut chooser = Chooser::new(0, Way::Mixed { length: 0 }, target.wanted.lines);
+    run_schedule(&mut machine, &mut chooser, target.wanted);
     Ok(chooser.choices())
 }
 
@@ -347,14 +318,9 @@ pub fn first_choices(
 /// # Errors
 ///
 /// Why there is no machine.
-pub fn first_length(
-    alloc: Global,
-    image: &Image,
-    boot: &Boot,
-    wanted: &Wanted,
-) -> Result<u32, HuntStop> {
-    let mut machine = begin(alloc, image, boot)?;
-    let mut chooser = Chooser::new(0, Way::Random, wanted.lines);
-    run_schedule(&mut machine, &mut chooser, wanted);
+pub fn first_length(target: &Target<'_>) -> Result<u32, HuntStop> {
+    let mut machine = begin(target.alloc, target.image, target.boot)?;
+    let mut chooser = Chooser::new(0, Way::Random, target.wanted.lines);
+    run_schedule(&mut machine, &mut chooser, target.wanted);
     Ok(machine.event_count().min(1 << 20) as u32)
 }

@@ -2,18 +2,23 @@
 #![tactic(auto)]
 
 mod asking;
+mod dropping;
 mod found;
 mod going;
 mod hunting;
+mod joining;
 mod key;
 mod onlooker;
 mod place;
+mod playing;
 mod reporting;
 mod script;
 mod seeing;
 mod shortening;
 mod switching;
+mod target;
 mod tracking;
+mod trial;
 mod walking;
 
 pub use found::{Found, replayed, shortest};
@@ -29,3 +34,4 @@ pub use reporting::{counts_text, row_text, schedule_text};
 pub use script::{failing_script, journal_text};
 pub use shortening::{PLAY_LIMIT, PLAYED_LIMIT, shorten};
 pub use switching::{Switching, hunt_all};
+pub use target::Target;

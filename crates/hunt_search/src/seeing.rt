@@ -9,13 +9,12 @@ ghost use Rattle.hunt_schedules.specs.Searches.{IsPassed};
 ghost use Rattle.hunt_schedules.specs.Walks.{IsReached};
 
 use crate::tracking::Tracker;
+use crate::trial::{Position, Trial};
 use crate::walking::{begin_with, take_steps};
 use claims_machine::device_kinds_never_change;
-use evm_ram::Image;
 use hunt_failures::Wanted;
-use hunt_schedules::{AnyDevice, BeginFault, Boot, Branch, Machine, Queue, begin};
+use hunt_schedules::{AnyDevice, BeginFault, Branch, Machine, Queue, begin};
 use hunt_states::{StateMark, have_same_boards};
-use std::alloc::Global;
 
 // Whether a branch makes some steps of a fresh machine, and nothing that is looked for fails.
 fn goes(machine: &mut Machine<AnyDevice>, wanted: &Wanted, branch: &Branch, steps: u32) -> bool
@@ -66,36 +65,31 @@ fn covers(seen: &Machine<AnyDevice>, machine: &Machine<AnyDevice>) -> bool
 ///
 /// Why there is no machine.
 pub(crate) fn is_seen(
-    alloc: Global,
-    image: &Image,
-    boot: &Boot,
-    wanted: &Wanted,
-    machine: &Machine<AnyDevice>,
-    branch: &Branch,
-    steps: u32,
+    trial: &Trial<'_>,
+    position: &Position<'_>,
     queue: &Queue,
-    walked: &[u32],
     mark: StateMark,
 ) -> Result<bool, BeginFault>
-    requires { (first : State) → Begins image.now boot.now first → IsReached first branch.now steps machine.now }
-    ensures { IfOk result (λ seen. seen ≡ true → (first : State) → Begins image.now boot.now first → IsCovered (IsPassed first queue.now.branches.items (walked.now ++ steps ∷ [])) machine.now branch.now.cpu (length branch.now.turns.items)) }
+    requires { (first : State) → Begins trial.now.target.image.now trial.now.target.boot.now first → IsReached first trial.now.branch.now position.now.steps position.now.machine.now }
+    ensures { IfOk result (λ seen. seen ≡ true → (first : State) → Begins trial.now.target.image.now trial.now.target.boot.now first → IsCovered (IsPassed first queue.now.branches.items (trial.now.walked.now ++ position.now.steps ∷ [])) position.now.machine.now trial.now.branch.now.cpu (length trial.now.branch.now.turns.items)) }
 {
+    let target = trial.target;
     let Some(other) = queue.get(mark.place) else {
         return Ok(false);
     };
-    if !has_passed(walked, steps, mark) {
+    if !has_passed(trial.walked, position.steps, mark) {
         return Ok(false);
     }
-    if !has_no_more(&other, branch) {
+    if !has_no_more(&other, trial.branch) {
         return Ok(false);
     }
-    let mut seen = match begin(alloc, image, boot) {
+    let mut seen = match begin(target.alloc, target.image, target.boot) {
         Ok(machine) => machine,
         Err(fault) => return Err(fault),
     };
-    if !goes(&mut seen, wanted, &other, mark.steps) {
+    if !goes(&mut seen, target.wanted, &other, mark.steps) {
         return Ok(false);
     }
     device_kinds_never_change();
-    Ok(covers(&seen, machine))
+    Ok(covers(&seen, position.machine))
 }

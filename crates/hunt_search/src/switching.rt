@@ -13,15 +13,14 @@ ghost use Rattle.hunt_schedules.specs.Branches.{KeepsBranches};
 ghost use Rattle.hunt_schedules.specs.Searches.{IsPassed, IsSearched};
 
 use crate::going::{Walk, go_on};
-use crate::hunting::{Report, note};
+use crate::hunting::{Report, Run, note};
 use crate::onlooker::Onlooker;
+use crate::target::Target;
 use crate::tracking::Tracker;
+use crate::trial::Trial;
 use crate::walking::begin_with;
-use evm_ram::Image;
-use hunt_failures::Wanted;
-use hunt_schedules::{AnyDevice, Boot, Branch, HuntStop, Machine, Queue, RunOutcome, begin};
+use hunt_schedules::{AnyDevice, HuntStop, Machine, Queue, RunOutcome, begin};
 use hunt_states::StateMarks;
-use std::alloc::Global;
 
 /// What bounds the schedules.
 #[derive(Clone, Copy, Debug)]
@@ -36,27 +35,22 @@ pub struct Switching {
 
 // The run of the last branch on a fresh machine, and the branches that go another way.
 fn run_branch(
-    alloc: Global,
-    image: &Image,
-    boot: &Boot,
+    trial: &Trial<'_>,
     machine: &mut Machine<AnyDevice>,
-    wanted: &Wanted,
-    branch: &Branch,
-    bounds: &Switching,
     queue: &mut Queue,
-    walked: &[u32],
     marks: &mut StateMarks,
 ) -> Result<Walk, HuntStop>
-    requires begins { Begins image.now boot.now machine.old }
+    requires begins { Begins trial.now.target.image.now trial.now.target.boot.now machine.old }
     requires fresh { IsReplayOf machine.old machine.old }
-    requires there { slice_get queue.old.branches.items (length walked.now) ≡ Option.Some branch.now }
-    ensures tried { IfOk result (λ walk. ComesFrom image.now boot.now machine.new × Ends wanted.now.lines walk.outcome machine.new) }
+    requires there { slice_get queue.old.branches.items (length trial.now.walked.now) ≡ Option.Some trial.now.branch.now }
+    ensures tried { IfOk result (λ walk. ComesFrom trial.now.target.image.now trial.now.target.boot.now machine.new × Ends trial.now.target.wanted.now.lines walk.outcome machine.new) }
     ensures keeps { KeepsBranches queue.old.branches.items queue.new.branches.items }
     ensures cut { queue.new.cut ≡ false → queue.old.cut ≡ false }
-    ensures searches { IfOk result (λ walk. is_failed walk.outcome ≡ false → queue.new.cut ≡ false → (first : State) → Begins image.now boot.now first → IsSearched (MayMake wanted.now.lines) (FailsAsWanted wanted.now) first bounds.now.switches queue.new.branches.items (IsPassed first queue.new.branches.items (walked.now ++ walk.steps ∷ [])) branch.now walk.steps) }
+    ensures searches { IfOk result (λ walk. is_failed walk.outcome ≡ false → queue.new.cut ≡ false → (first : State) → Begins trial.now.target.image.now trial.now.target.boot.now first → IsSearched (MayMake trial.now.target.wanted.now.lines) (FailsAsWanted trial.now.target.wanted.now) first trial.now.switches queue.new.branches.items (IsPassed first queue.new.branches.items (trial.now.walked.now ++ walk.steps ∷ [])) trial.now.branch.now walk.steps) }
 {
     let mut tracker = Tracker::new();
-    match begin_with(machine, branch.turns.as_slice(), wanted, &mut tracker) {
+    let turns = trial.branch.turns.as_slice();
+    match begin_with(machine, turns, trial.target.wanted, &mut tracker) {
         Some(failure) => {
             return Ok(Walk {
                 outcome: RunOutcome::Failed(failure),
@@ -65,19 +59,7 @@ fn run_branch(
         }
         None => {}
     }
-    match go_on(
-        alloc,
-        image,
-        boot,
-        machine,
-        branch,
-        wanted,
-        &mut tracker,
-        bounds,
-        queue,
-        walked,
-        marks,
-    ) {
+    match go_on(trial, machine, &mut tracker, queue, marks) {
         Ok(walk) => Ok(walk),
         Err(stop) => Err(stop),
     }
@@ -85,57 +67,35 @@ fn run_branch(
 
 // Looks at the last branch, and adds what it came to; at how many states it went on.
 fn look_at<O: Onlooker>(
-    alloc: Global,
-    image: &Image,
-    boot: &Boot,
-    wanted: &Wanted,
-    bounds: &Switching,
-    branch: &Branch,
+    trial: &Trial<'_>,
     queue: &mut Queue,
-    walked: &[u32],
     marks: &mut StateMarks,
     report: &mut Report,
     onlooker: &mut O,
 ) -> Result<u32, HuntStop>
-    requires found { AreFound image.now boot.now wanted.now.lines report.old.rows.items }
-    requires there { slice_get queue.old.branches.items (length walked.now) ≡ Option.Some branch.now }
-    ensures found { OnOk result (AreFound image.now boot.now wanted.now.lines report.new.rows.items) }
+    requires found { AreFound trial.now.target.image.now trial.now.target.boot.now trial.now.target.wanted.now.lines report.old.rows.items }
+    requires there { slice_get queue.old.branches.items (length trial.now.walked.now) ≡ Option.Some trial.now.branch.now }
+    ensures found { OnOk result (AreFound trial.now.target.image.now trial.now.target.boot.now trial.now.target.wanted.now.lines report.new.rows.items) }
     ensures keeps { KeepsBranches queue.old.branches.items queue.new.branches.items }
     ensures cut { queue.new.cut ≡ false → queue.old.cut ≡ false }
     ensures rows { OnOk result (report.new.rows.items ≡ [] → report.old.rows.items ≡ []) }
-    ensures searches { IfOk result (λ steps. report.new.rows.items ≡ [] → queue.new.cut ≡ false → (first : State) → Begins image.now boot.now first → IsSearched (MayMake wanted.now.lines) (FailsAsWanted wanted.now) first bounds.now.switches queue.new.branches.items (IsPassed first queue.new.branches.items (walked.now ++ steps ∷ [])) branch.now steps) }
+    ensures searches { IfOk result (λ steps. report.new.rows.items ≡ [] → queue.new.cut ≡ false → (first : State) → Begins trial.now.target.image.now trial.now.target.boot.now first → IsSearched (MayMake trial.now.target.wanted.now.lines) (FailsAsWanted trial.now.target.wanted.now) first trial.now.switches queue.new.branches.items (IsPassed first queue.new.branches.items (trial.now.walked.now ++ steps ∷ [])) trial.now.branch.now steps) }
 {
-    let mut machine = match begin(alloc, image, boot) {
+    let target = trial.target;
+    let mut machine = match begin(target.alloc, target.image, target.boot) {
         Ok(machine) => machine,
         Err(fault) => return Err(HuntStop::from(fault)),
     };
-    let place = walked.len() as u64;
-    let walk = match run_branch(
-        alloc,
-        image,
-        boot,
-        &mut machine,
-        wanted,
-        branch,
-        bounds,
-        queue,
-        walked,
-        marks,
-    ) {
+    let walk = match run_branch(trial, &mut machine, queue, marks) {
         Ok(walk) => walk,
         Err(stop) => return Err(stop),
     };
-    match note(
-        alloc,
-        image,
-        boot,
-        wanted,
-        place,
-        &machine,
-        walk.outcome,
-        report,
-        onlooker,
-    ) {
+    let run = Run {
+        seed: trial.walked.len() as u64,
+        machine: &machine,
+        outcome: walk.outcome,
+    };
+    match note(&target, &run, report, onlooker) {
         Ok(()) => Ok(walk.steps),
         Err(stop) => Err(stop),
     }
@@ -158,28 +118,25 @@ fn is_cut(queue: &Queue, place: u64) -> bool
 ///
 /// Memory was refused, or no machine boots with the image.
 pub fn hunt_all<O: Onlooker>(
-    alloc: Global,
-    image: &Image,
-    boot: &Boot,
-    wanted: &Wanted,
+    target: &Target<'_>,
     bounds: &Switching,
     onlooker: &mut O,
 ) -> Result<Report, HuntStop>
     // each failure is one of a machine that was booted with the image
-    ensures found { IfOk result (λ report. AreFound image.now boot.now wanted.now.lines report.rows.items) }
+    ensures found { IfOk result (λ report. AreFound target.now.image.now target.now.boot.now target.now.wanted.now.lines report.rows.items) }
     // if it has found none, and there were no more schedules than may be looked at, no schedule fails
-    ensures complete { IfOk result (λ report. report.rows.items ≡ [] → report.cut ≡ false → NeverFails image.now boot.now wanted.now bounds.now.switches) }
+    ensures complete { IfOk result (λ report. report.rows.items ≡ [] → report.cut ≡ false → NeverFails target.now.image.now target.now.boot.now target.now.wanted.now bounds.now.switches) }
 {
-    let mut report = Report::new(alloc, bounds.orders);
-    let mut queue = match Queue::new(alloc, bounds.schedules) {
+    let mut report = Report::new(target.alloc, bounds.orders);
+    let mut queue = match Queue::new(target.alloc, bounds.schedules) {
         Ok(queue) => queue,
         Err(fault) => return Err(HuntStop::from(fault)),
     };
-    let mut marks = match StateMarks::new(alloc) {
+    let mut marks = match StateMarks::new(target.alloc) {
         Ok(marks) => marks,
         Err(fault) => return Err(HuntStop::from(fault)),
     };
-    let mut walked = Vec::new(alloc);
+    let mut walked = Vec::new(target.alloc);
     'places: for place in 0..bounds.schedules {
         if !onlooker.goes_on(place, report.rows.len() as u64) {
             report.set_cut(true);
@@ -189,19 +146,13 @@ pub fn hunt_all<O: Onlooker>(
             report.set_cut(is_cut(&queue, place));
             return Ok(report);
         };
-        match look_at(
-            alloc,
-            image,
-            boot,
-            wanted,
-            bounds,
-            &branch,
-            &mut queue,
-            walked.as_slice(),
-            &mut marks,
-            &mut report,
-            onlooker,
-        ) {
+        let trial = Trial {
+            target: *target,
+            switches: bounds.switches,
+            branch: &branch,
+            walked: walked.as_slice(),
+        };
+        match look_at(&trial, &mut queue, &mut marks, &mut report, onlooker) {
             Ok(steps) => match walked.push(steps) {
                 Ok(()) => {}
                 Err(_) => return Err(HuntStop::NoMemory),

@@ -13,13 +13,13 @@ ghost use Rattle.hunt_schedules.specs.Runs.{HasFailed};
 ghost use Rattle.hunt_schedules.specs.Branches.{KeepsBranches, events_of_turns, turn_events};
 ghost use Rattle.hunt_schedules.specs.Walks.{AreForked, HasPassed, HasStepped};
 
-use crate::switching::Switching;
 use crate::tracking::Tracker;
+use crate::trial::Trial;
 use evm_lines::LineSet;
 use evm_room::NoMemory;
 use hunt_failures::{Failure, Wanted, awake_processors, is_over};
 use hunt_schedules::{
-    AnyDevice, Branch, CpuTurn, Event, Machine, NoBytes, Queue, RunOutcome, advance,
+    AnyDevice, Branch, CpuTurn, Event, Machine, NoBytes, Queue, RunOutcome, Ways, advance,
 };
 use hunt_states::store_of;
 
@@ -116,31 +116,34 @@ fn is_among(cpus: &[u8], cpu: u8) -> bool
 }
 
 // Whether a branch has fewer switches than there may be.
-fn has_more(branch: &Branch, bounds: &Switching) -> bool
-    ensures { result ≡ false → length branch.now.turns.items < bounds.now.switches → ⊥ }
+fn has_more(trial: &Trial<'_>) -> bool
+    ensures { result ≡ false → length trial.now.branch.now.turns.items < trial.now.switches → ⊥ }
 {
-    branch.turns.len() < usize::from(bounds.switches)
+    trial.branch.turns.len() < usize::from(trial.switches)
 }
 
 // Adds the branches that go another way behind some steps of one, if there may be one more switch.
 fn fork(
+    trial: &Trial<'_>,
     machine: &Machine<AnyDevice>,
-    branch: &Branch,
     steps: u32,
     awake: &[u8],
-    wanted: &Wanted,
-    bounds: &Switching,
     queue: &mut Queue,
 ) -> Result<(), NoMemory>
     requires { (c : ℕ) → IsAwake c machine.now → (i : ℕ) × (slice_get awake.now i ≡ Option.Some c) }
     ensures keeps { KeepsBranches queue.old.branches.items queue.new.branches.items }
     ensures cut { queue.new.cut ≡ false → queue.old.cut ≡ false }
-    ensures forks { OnOk result (queue.new.cut ≡ false → AreForked (MayMake wanted.now.lines) bounds.now.switches queue.new.branches.items branch.now steps machine.now) }
+    ensures forks { OnOk result (queue.new.cut ≡ false → AreForked (MayMake trial.now.target.wanted.now.lines) trial.now.switches queue.new.branches.items trial.now.branch.now steps machine.now) }
 {
-    if !has_more(branch, bounds) {
+    if !has_more(trial) {
         return Ok(());
     }
-    queue.fork_all(branch, steps, awake, machine.cpu_count(), wanted.lines)?;
+    let ways = Ways {
+        awake,
+        cpus: machine.cpu_count(),
+        lines: trial.target.wanted.lines,
+    };
+    queue.fork_all(trial.branch, steps, &ways)?;
     Ok(())
 }
 
@@ -192,34 +195,25 @@ fn is_ended(machine: &Machine<AnyDevice>, awake: &[u8], lines: LineSet) -> bool
 ///
 /// Memory was refused.
 pub(crate) fn go_on_once(
+    trial: &Trial<'_>,
     machine: &mut Machine<AnyDevice>,
-    branch: &Branch,
     steps: u32,
-    wanted: &Wanted,
     tracker: &mut Tracker,
-    bounds: &Switching,
     queue: &mut Queue,
 ) -> Result<Option<RunOutcome>, NoMemory>
     ensures keeps { KeepsBranches queue.old.branches.items queue.new.branches.items }
     ensures cut { queue.new.cut ≡ false → queue.old.cut ≡ false }
-    ensures forks { OnOk result (queue.new.cut ≡ false → AreForked (MayMake wanted.now.lines) bounds.now.switches queue.new.branches.items branch.now steps machine.old) }
-    ensures steps { IfOk result (λ outcome. MatchOption outcome (HasStepped (FailsAsWanted wanted.now) branch.now machine.old machine.new) (λ outcome. EndsBranch wanted.now branch.now machine.old machine.new outcome)) }
+    ensures forks { OnOk result (queue.new.cut ≡ false → AreForked (MayMake trial.now.target.wanted.now.lines) trial.now.switches queue.new.branches.items trial.now.branch.now steps machine.old) }
+    ensures steps { IfOk result (λ outcome. MatchOption outcome (HasStepped (FailsAsWanted trial.now.target.wanted.now) trial.now.branch.now machine.old machine.new) (λ outcome. EndsBranch trial.now.target.wanted.now trial.now.branch.now machine.old machine.new outcome)) }
     ensures replays { (first : State) → IsReplayOf first machine.old → IsReplayOf first machine.new }
 {
     let awake = awake_processors(machine);
+    let wanted = trial.target.wanted;
     if is_ended(machine, awake.as_slice(), wanted.lines) {
         return Ok(Some(RunOutcome::Over));
     }
-    match fork(
-        machine,
-        branch,
-        steps,
-        awake.as_slice(),
-        wanted,
-        bounds,
-        queue,
-    ) {
-        Ok(()) => Ok(step_on(machine, branch, awake.as_slice(), wanted, tracker)),
+    match fork(trial, machine, steps, awake.as_slice(), queue) {
+        Ok(()) => Ok(step_on(machine, trial.branch, awake.as_slice(), wanted, tracker)),
         Err(fault) => Err(fault),
     }
 }

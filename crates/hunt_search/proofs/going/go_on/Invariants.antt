@@ -12,5 +12,5 @@ invariant-steps l =
     KeepsBranches l.initial.queue.branches.items l.queue.branches.items
     × (l.queue.cut ≡ false → l.initial.queue.cut ≡ false)
     × ((first : State) → IsReplayOf first l.initial.machine → IsReplayOf first l.machine)
-    × ((first : State) → Begins l.image l.boot first → IsReached first l.branch l.steps l.machine)
-    × (l.queue.cut ≡ false → (first : State) → Begins l.image l.boot first → IsWalkedBy l.wanted first l.bounds.switches l.queue.branches.items l.walked l.branch l.steps l.machine)
+    × ((first : State) → Begins l.trial.target.image.now l.trial.target.boot.now first → IsReached first l.trial.branch.now l.steps l.machine)
+    × (l.queue.cut ≡ false → (first : State) → Begins l.trial.target.image.now l.trial.target.boot.now first → IsWalkedBy l.trial.target.wanted.now first l.trial.switches l.queue.branches.items l.trial.walked.now l.trial.branch.now l.steps l.machine)

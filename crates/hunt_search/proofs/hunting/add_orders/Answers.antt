@@ -4,9 +4,9 @@ use Rattle.hunt_search.proofs.hunting.add_orders.Goals as goal
 
 pub returns-clause-found : goal.returns-clause-found
 returns-clause-found g c =
-    let image = c.args.image.now in
-    let boot = c.args.boot.now in
-    let lines = c.args.wanted.now.lines in
+    let image = c.args.target.now.image.now in
+    let boot = c.args.target.now.boot.now in
+    let lines = c.args.target.now.wanted.now.lines in
     let row = c.cycle_row-row.result in
     let met = met-none image boot lines row.failure c.cycle_row-row.ensures in
     on_ok_weaker c.add.result (λ more. found-more image boot lines c.args.report.now.rows.items c.add.new.self.rows.items row more met c.requires) c.add.ensures

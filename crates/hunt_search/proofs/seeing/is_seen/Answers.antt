@@ -7,10 +7,10 @@ use Rattle.hunt_search.proofs.seeing.is_seen.Goals as goal
 
 pub returns : goal.returns
 returns c same first begins =
-    let one = one-first c.args.image.now c.args.boot.now c.in-Ok.machine first c.in-Ok.ensures.begins begins in
+    let one = one-first c.args.trial.now.target.image.now c.args.trial.now.target.boot.now c.in-Ok.machine first c.in-Ok.ensures.begins begins in
     let gone : c.goes.result ≡ true = search rules in
     let reached = subst (λ (s : State). IsReached s c.in-Some.other c.args.mark.steps c.goes.new.machine) one (c.goes.ensures gone) in
-    let kinds = same-kinds c.device_kinds_never_change.ensures first c.goes.new.machine c.args.machine.now c.in-Some.other c.args.branch.now c.args.mark.steps c.args.steps reached (c.requires first begins) in
+    let kinds = same-kinds c.device_kinds_never_change.ensures first c.goes.new.machine c.args.position.now.machine.now c.in-Some.other c.args.trial.now.branch.now c.args.mark.steps c.args.position.now.steps reached (c.requires first begins) in
     let passed' : c.has_passed.result ≡ true = search rules in
     let passed = c.has_passed.ensures passed' in
     let fewer : c.has_no_more.result ≡ true = search rules in

@@ -21,5 +21,5 @@ joined after-steps after-tick branches branch steps awake cpus lines others keep
 pub returns-in-Ok-fork_lines-clause-has : goal.returns-in-Ok-fork_lines-clause-has
 returns-in-Ok-fork_lines-clause-has c none =
     let none' = c.fork_lines.ensures.cut none in
-    joined c.fork_steps.new.self.branches.items c.fork.new.self.branches.items c.fork_lines.new.self.branches.items c.args.branch.now c.args.steps c.args.awake.now c.args.cpus c.args.lines
+    joined c.fork_steps.new.self.branches.items c.fork.new.self.branches.items c.fork_lines.new.self.branches.items c.args.branch.now c.args.steps c.args.ways.now.awake.now c.args.ways.now.cpus c.args.ways.now.lines
     (c.in-Ok.ensures.has (c.fork.ensures.cut none')) c.fork.ensures.keeps (c.in-Ok-fork.ensures.pushes none') c.fork_lines.ensures.keeps (c.in-Ok-fork_lines.ensures.has none)
