@@ -1,80 +1,33 @@
 //! The answer to a command.
 
-ghost use Rattle.std.specs.Prelude.{◌≡◌, ◌≢◌, true, ◌++◌, ℕ, List, IfSome, OnSome, Option, OnOk, OnErr, length};
+ghost use Rattle.std.specs.Prelude.{◌≡◌, true, ◌++◌, ℕ, List, IfSome, OnSome, Option, OnOk};
 ghost use Rattle.gdb_answers.specs.Answers.{answer_text};
-ghost use Rattle.gdb_answers.specs.Asking.{ArePointsSet, IsCarriedOut, asked, asked_by, counted_writing, has_digits, points_asked};
-ghost use Rattle.gdb_answers.specs.Setting.{register_write};
-ghost use Rattle.gdb_tape.specs.gdb_driving.Kept.{KeepsJournal};
+ghost use Rattle.gdb_answers.specs.Asking.{ArePointsSet, IsCarriedOut, asked, asked_by, has_digits, points_asked};
 ghost use Rattle.gdb_tape.specs.gdb_driving.Points.{IsSetTo};
-ghost use Rattle.gdb_tape.specs.gdb_driving.Setting.{MakesAsked, registers_setting};
 ghost use Rattle.gdb_tape.specs.gdb_driving.Shown.{error_text, outcome_text};
 ghost use Rattle.gdb_tape.specs.Tape.{KeepsTape};
 ghost use Rattle.gdb_packets.specs.Hexadecimal.{bytes_of_digits};
-ghost use Rattle.evm_ram.specs.Ram.{bytes_at};
 
+use crate::carrying::carry_out;
 use crate::monitor::{LineEnd, run_monitor};
 use crate::questions::answer_question;
-use crate::resuming::{answer_resumed, answer_reversed, dropped_text, refusal_text};
+use crate::response::Reply;
+use crate::resuming::{Resumption, answer_resumed, answer_reversed, dropped_text, refusal_text};
+use crate::serving::Server;
 use crate::session::GdbSession;
 use crate::starting::answer_start;
 use crate::words::put_thread;
-use evm_dev::Device;
 use evm_devs::AnyDevice;
 use evm_room::{NoMemory, Refused, push_text};
 use gdb_packets::{Command, Pace, push_digits, read_digits};
 use gdb_tape::{
-    Interrupts, Machine, Points, Refusal, WatchPoint, processor_of, push_bytes, push_error,
-    push_outcome, set_register, set_registers, word_at, write,
+    Interrupts, Machine, Points, Refusal, WatchPoint, push_bytes, push_error, push_outcome,
 };
 use sh_answers::Page;
 use std::alloc::Global;
 
 /// The error of a packet whose digits or numbers are wrong: 22 (EINVAL).
 pub(crate) const MALFORMED: u8 = 22;
-
-// Sets a register of the task that is looked at.
-#[tactic(auto, using(crate::proofs::Kept::keeps_same))]
-fn write_register<D: Device>(
-    machine: &mut Machine<D>,
-    looked: u8,
-    r: u64,
-    bytes: &[u8],
-) -> Result<(), Refusal>
-    ensures made { MakesAsked (register_write looked r bytes.now machine.old.board.parts) result machine.old machine.new }
-    ensures kept { KeepsJournal machine.old machine.new }
-    ensures unchanged { OnErr result (machine.new ≡ machine.old) }
-{
-    let Some((value, rest)) = word_at(bytes) else {
-        return Err(Refusal::BadRegister);
-    };
-    if !rest.is_empty() {
-        return Err(Refusal::BadRegister);
-    }
-    match processor_of(machine, looked) {
-        Ok(c) => set_register(machine, c, r, value),
-        Err(refusal) => Err(refusal),
-    }
-}
-
-// Writes bytes, if there are as many as was said.
-#[tactic(auto, using(crate::proofs::Kept::keeps_same))]
-fn write_counted<D: Device>(
-    machine: &mut Machine<D>,
-    address: u64,
-    count: u64,
-    bytes: &[u8],
-) -> Result<(), Refusal>
-    ensures made { MakesAsked (counted_writing address count bytes.now machine.old) result machine.old machine.new }
-    ensures kept { KeepsJournal machine.old machine.new }
-    ensures unchanged { OnErr result (machine.new ≡ machine.old) }
-    ensures counted { length bytes.now ≢ count → machine.new ≡ machine.old }
-    ensures outside { bytes_at machine.old.board.memory.ram address (length bytes.now) ≡ Option.None → machine.new ≡ machine.old }
-{
-    if bytes.len() as u64 != count {
-        return Err(Refusal::BadAddress);
-    }
-    write(machine, address, bytes)
-}
 
 // Sets a breakpoint or a watchpoint, or takes one away; none where a command is another.
 fn change_points(
@@ -138,89 +91,24 @@ fn answer_monitor(
     alloc: Global,
     session: &mut GdbSession,
     line: &[u8],
-    told: &mut String,
-    out: &mut Vec<u8>,
+    reply: &mut Reply,
 ) -> Result<(), NoMemory>
     ensures kept { KeepsTape session.old.tape session.new.tape }
 {
-    let end = run_monitor(alloc, session, line, told)?;
+    let end = run_monitor(alloc, session, line, &mut reply.told)?;
     let said = match end {
         LineEnd::Done => dropped_text(session),
         LineEnd::Bad => "vardozek gdb: no line of a script; monitor help lists them\n",
         LineEnd::BootsAgain => "vardozek gdb: the machine is booted\n",
         LineEnd::Refused(refusal) => refusal_text(refusal),
     };
-    match push_text(told, said) {
+    match push_text(&mut reply.told, said) {
         Ok(()) => {}
         Err(_) => return Err(NoMemory),
     }
-    match push_bytes(out, b"OK") {
+    match push_bytes(&mut reply.payload, b"OK") {
         Ok(()) => Ok(()),
         Err(_) => Err(NoMemory),
-    }
-}
-
-// Sets the registers of the task that is looked at. Events behind the place are dropped.
-#[tactic(auto, using(gdb_tape::proofs::Keeping::keeps_changed))]
-fn carry_registers(session: &mut GdbSession, bytes: &[u8]) -> Result<(), Refusal>
-    ensures made { MakesAsked (registers_setting session.old.looked bytes.now session.old.tape.machine.board.parts) result session.old.tape.machine session.new.tape.machine }
-    ensures kept { KeepsTape session.old.tape session.new.tape }
-{
-    let looked = session.looked;
-    let outcome = set_registers(&mut session.tape.machine, looked, bytes);
-    session.forget();
-    outcome
-}
-
-// Sets a register of the task that is looked at. If it is set events behind the place are dropped.
-#[tactic(auto, using(gdb_tape::proofs::Keeping::keeps_same, gdb_tape::proofs::Keeping::keeps_changed))]
-fn carry_register(session: &mut GdbSession, r: u64, bytes: &[u8]) -> Result<(), Refusal>
-    ensures made { MakesAsked (register_write session.old.looked r bytes.now session.old.tape.machine.board.parts) result session.old.tape.machine session.new.tape.machine }
-    ensures kept { KeepsTape session.old.tape session.new.tape }
-{
-    let looked = session.looked;
-    match write_register(&mut session.tape.machine, looked, r, bytes) {
-        Ok(()) => {
-            session.forget();
-            Ok(())
-        }
-        Err(refusal) => Err(refusal),
-    }
-}
-
-// Writes bytes, if there are as many as was said. If they are written events behind the place are dropped.
-#[tactic(auto, using(gdb_tape::proofs::Keeping::keeps_same, gdb_tape::proofs::Keeping::keeps_changed))]
-fn carry_bytes(
-    session: &mut GdbSession,
-    address: u64,
-    count: u64,
-    bytes: &[u8],
-) -> Result<(), Refusal>
-    ensures made { MakesAsked (counted_writing address count bytes.now session.old.tape.machine) result session.old.tape.machine session.new.tape.machine }
-    ensures kept { KeepsTape session.old.tape session.new.tape }
-{
-    match write_counted(&mut session.tape.machine, address, count, bytes) {
-        Ok(()) => {
-            session.forget();
-            Ok(())
-        }
-        Err(refusal) => Err(refusal),
-    }
-}
-
-// Makes the events that a command with these bytes asks for.
-#[tactic(auto, using(gdb_tape::proofs::Keeping::keeps_same))]
-fn carry_out(session: &mut GdbSession, command: Command, bytes: &[u8]) -> Result<(), Refusal>
-    ensures made { IfSome (asked_by session.old.looked bytes.now session.old.tape.machine command) (λ events. MakesAsked events result session.old.tape.machine session.new.tape.machine) }
-    ensures kept { KeepsTape session.old.tape session.new.tape }
-{
-    match command {
-        Command::SetRegisters => carry_registers(session, bytes),
-        Command::SetRegister(r) => carry_register(session, r, bytes),
-        Command::WriteDigits(address, count) | Command::WriteBytes(address, count) => {
-            carry_bytes(session, address, count, bytes)
-        }
-        _ => Ok(()),
     }
 }
 
@@ -231,18 +119,17 @@ fn answer_data(
     session: &mut GdbSession,
     command: Command,
     bytes: &[u8],
-    told: &mut String,
-    out: &mut Vec<u8>,
+    reply: &mut Reply,
 ) -> Result<(), NoMemory>
-    ensures done { OnOk result (IfSome (asked_by session.old.looked bytes.now session.old.tape.machine command) (λ events. IsCarriedOut outcome_text events session.old.tape.machine session.new.tape.machine out.old.items out.new.items)) }
-    ensures quiet { OnSome (asked_by session.old.looked bytes.now session.old.tape.machine command) (told.new ≡ told.old) }
+    ensures done { OnOk result (IfSome (asked_by session.old.looked bytes.now session.old.tape.machine command) (λ events. IsCarriedOut outcome_text events session.old.tape.machine session.new.tape.machine reply.old.payload.items reply.new.payload.items)) }
+    ensures quiet { OnSome (asked_by session.old.looked bytes.now session.old.tape.machine command) (reply.new.told ≡ reply.old.told) }
     ensures kept { KeepsTape session.old.tape session.new.tape }
 {
     let outcome = match command {
-        Command::Monitor => return answer_monitor(alloc, session, bytes, told, out),
+        Command::Monitor => return answer_monitor(alloc, session, bytes, reply),
         _ => carry_out(session, command, bytes),
     };
-    match push_outcome(out, outcome) {
+    match push_outcome(&mut reply.payload, outcome) {
         Ok(()) => Ok(()),
         Err(_) => Err(NoMemory),
     }
@@ -255,19 +142,18 @@ fn answer_digits(
     session: &mut GdbSession,
     command: Command,
     digits: &[u8],
-    data: &mut Vec<u8>,
-    told: &mut String,
-    out: &mut Vec<u8>,
+    reply: &mut Reply,
 ) -> Result<(), NoMemory>
-    ensures done { (bytes : List ℕ) → bytes_of_digits digits.now ≡ Option.Some bytes → OnOk result (IfSome (asked_by session.old.looked bytes session.old.tape.machine command) (λ events. IsCarriedOut outcome_text events session.old.tape.machine session.new.tape.machine out.old.items out.new.items)) }
+    ensures done { (bytes : List ℕ) → bytes_of_digits digits.now ≡ Option.Some bytes → OnOk result (IfSome (asked_by session.old.looked bytes session.old.tape.machine command) (λ events. IsCarriedOut outcome_text events session.old.tape.machine session.new.tape.machine reply.old.payload.items reply.new.payload.items)) }
     ensures kept { KeepsTape session.old.tape session.new.tape }
-    ensures quiet { (bytes : List ℕ) → bytes_of_digits digits.now ≡ Option.Some bytes → OnSome (asked_by session.old.looked bytes session.old.tape.machine command) (told.new ≡ told.old) }
+    ensures quiet { (bytes : List ℕ) → bytes_of_digits digits.now ≡ Option.Some bytes → OnSome (asked_by session.old.looked bytes session.old.tape.machine command) (reply.new.told ≡ reply.old.told) }
     ensures malformed { bytes_of_digits digits.now ≡ Option.None → session.new ≡ session.old }
-    ensures told { bytes_of_digits digits.now ≡ Option.None → OnOk result (out.new.items ≡ out.old.items ++ error_text MALFORMED) }
+    ensures told { bytes_of_digits digits.now ≡ Option.None → OnOk result (reply.new.payload.items ≡ reply.old.payload.items ++ error_text MALFORMED) }
 {
-    match read_digits(digits, data) {
-        Ok(true) => answer_data(alloc, session, command, data.as_slice(), told, out),
-        Ok(false) => match push_error(out, MALFORMED) {
+    let mut data = Vec::new(alloc);
+    match read_digits(digits, &mut data) {
+        Ok(true) => answer_data(alloc, session, command, data.as_slice(), reply),
+        Ok(false) => match push_error(&mut reply.payload, MALFORMED) {
             Ok(()) => Ok(()),
             Err(_) => Err(NoMemory),
         },
@@ -278,54 +164,60 @@ fn answer_digits(
 // The answer to a command that changes what GDB has chosen, or lets the program go on.
 #[tactic(auto, using(gdb_tape::proofs::Keeping::keeps_same))]
 fn answer_order<I: Interrupts>(
-    alloc: Global,
+    server: &Server<'_, I>,
     session: &mut GdbSession,
     command: Command,
-    interrupts: &I,
-    told: &mut String,
-    out: &mut Vec<u8>,
+    reply: &mut Reply,
 ) -> Result<(), Refused>
-    ensures points { OnOk result (IfSome (points_asked session.old.tape.machine session.old.points command) (λ outcome. ArePointsSet outcome_text outcome session.old.points session.new.points out.old.items out.new.items)) }
-    ensures quiet { OnSome (points_asked session.old.tape.machine session.old.points command) (told.new ≡ told.old) }
+    ensures points { OnOk result (IfSome (points_asked session.old.tape.machine session.old.points command) (λ outcome. ArePointsSet outcome_text outcome session.old.points session.new.points reply.old.payload.items reply.new.payload.items)) }
+    ensures quiet { OnSome (points_asked session.old.tape.machine session.old.points command) (reply.new.told ≡ reply.old.told) }
     ensures kept { KeepsTape session.old.tape session.new.tape }
-    ensures said { (text : List ℕ) → answer_text session.old.looked session.old.halt session.old.tape.machine command ≡ Option.Some text → OnOk result (out.new.items ≡ out.old.items ++ text) }
+    ensures said { (text : List ℕ) → answer_text session.old.looked session.old.halt session.old.tape.machine command ≡ Option.Some text → OnOk result (reply.new.payload.items ≡ reply.old.payload.items ++ text) }
     ensures unchanged { (text : List ℕ) → answer_text session.old.looked session.old.halt session.old.tape.machine command ≡ Option.Some text → session.new ≡ session.old }
 {
     match command {
         Command::Resume(pace) => {
-            let chosen = session.chosen;
-            let others = pace == Pace::Continue;
-            answer_resumed(alloc, session, pace, chosen, others, interrupts, told, out)
+            let resumption = Resumption {
+                pace,
+                thread: session.chosen,
+                others: pace == Pace::Continue,
+            };
+            answer_resumed(server, session, resumption, reply)
         }
-        Command::ResumeThread(pace, thread, others) => answer_resumed(
-            alloc, session, pace, thread, others, interrupts, told, out,
-        ),
-        Command::Reverse(pace) => answer_reversed(alloc, session, pace, told, out),
+        Command::ResumeThread(pace, thread, others) => {
+            let resumption = Resumption {
+                pace,
+                thread,
+                others,
+            };
+            answer_resumed(server, session, resumption, reply)
+        }
+        Command::Reverse(pace) => answer_reversed(server.alloc, session, pace, reply),
         Command::Insert(_, _)
         | Command::Remove(_, _)
         | Command::Watch(_, _, _)
-        | Command::Unwatch(_, _, _) => answer_points(session, command, out),
-        Command::Look(thread) => look_at(session, thread, out),
+        | Command::Unwatch(_, _, _) => answer_points(session, command, &mut reply.payload),
+        Command::Look(thread) => look_at(session, thread, &mut reply.payload),
         Command::Choose(thread) => {
             session.chosen = thread;
-            push_bytes(out, b"OK")
+            push_bytes(&mut reply.payload, b"OK")
         }
         Command::NoAcknowledgements => {
             session.acknowledges = false;
-            push_bytes(out, b"OK")
+            push_bytes(&mut reply.payload, b"OK")
         }
         Command::Detach => {
             session.over = true;
-            push_bytes(out, b"OK")
+            push_bytes(&mut reply.payload, b"OK")
         }
         Command::Kill => {
             session.over = !session.extended;
             Ok(())
         }
         Command::Extended | Command::Run(_) | Command::Restart | Command::KillProcess => {
-            answer_start(session, command, out)
+            answer_start(session, command, &mut reply.payload)
         }
-        _ => answer_question(session, command, out),
+        _ => answer_question(session, command, &mut reply.payload),
     }
 }
 
@@ -347,43 +239,41 @@ fn answer_text(
     }
 }
 
-/// Does a command, and appends its answer to `out`, and to `told` what the user is to see besides. `data` is used for
-/// digits.
+/// Does a command, and appends its answer to `reply`.
 ///
 /// # Errors
 ///
 /// Memory was refused.
 #[tactic(auto, using(gdb_tape::proofs::Keeping::keeps_same))]
 pub(crate) fn answer<I: Interrupts>(
-    alloc: Global,
+    server: &Server<'_, I>,
     session: &mut GdbSession,
     command: Command,
     behind: &[u8],
-    interrupts: &I,
-    data: &mut Vec<u8>,
-    told: &mut String,
-    out: &mut Vec<u8>,
+    reply: &mut Reply,
 ) -> Result<(), NoMemory>
-    ensures done { OnOk result (IfSome (asked session.old.looked behind.now session.old.tape.machine command) (λ events. IsCarriedOut outcome_text events session.old.tape.machine session.new.tape.machine out.old.items out.new.items)) }
-    ensures quiet { OnSome (asked session.old.looked behind.now session.old.tape.machine command) (told.new ≡ told.old) }
+    ensures done { OnOk result (IfSome (asked session.old.looked behind.now session.old.tape.machine command) (λ events. IsCarriedOut outcome_text events session.old.tape.machine session.new.tape.machine reply.old.payload.items reply.new.payload.items)) }
+    ensures quiet { OnSome (asked session.old.looked behind.now session.old.tape.machine command) (reply.new.told ≡ reply.old.told) }
     ensures malformed { has_digits command ≡ true → bytes_of_digits behind.now ≡ Option.None → session.new ≡ session.old }
-    ensures refused { has_digits command ≡ true → bytes_of_digits behind.now ≡ Option.None → OnOk result (out.new.items ≡ out.old.items ++ error_text MALFORMED) }
+    ensures refused { has_digits command ≡ true → bytes_of_digits behind.now ≡ Option.None → OnOk result (reply.new.payload.items ≡ reply.old.payload.items ++ error_text MALFORMED) }
     ensures kept { KeepsTape session.old.tape session.new.tape }
-    ensures points { OnOk result (IfSome (points_asked session.old.tape.machine session.old.points command) (λ outcome. ArePointsSet outcome_text outcome session.old.points session.new.points out.old.items out.new.items)) }
-    ensures silent { OnSome (points_asked session.old.tape.machine session.old.points command) (told.new ≡ told.old) }
-    ensures said { (text : List ℕ) → answer_text session.old.looked session.old.halt session.old.tape.machine command ≡ Option.Some text → OnOk result (out.new.items ≡ out.old.items ++ text) }
+    ensures points { OnOk result (IfSome (points_asked session.old.tape.machine session.old.points command) (λ outcome. ArePointsSet outcome_text outcome session.old.points session.new.points reply.old.payload.items reply.new.payload.items)) }
+    ensures silent { OnSome (points_asked session.old.tape.machine session.old.points command) (reply.new.told ≡ reply.old.told) }
+    ensures said { (text : List ℕ) → answer_text session.old.looked session.old.halt session.old.tape.machine command ≡ Option.Some text → OnOk result (reply.new.payload.items ≡ reply.old.payload.items ++ text) }
     ensures unchanged { (text : List ℕ) → answer_text session.old.looked session.old.halt session.old.tape.machine command ≡ Option.Some text → session.new ≡ session.old }
 {
     match command {
-        Command::WriteBytes(_, _) => answer_data(alloc, session, command, behind, told, out),
+        Command::WriteBytes(_, _) => answer_data(server.alloc, session, command, behind, reply),
         Command::Monitor
         | Command::SetRegisters
         | Command::SetRegister(_)
         | Command::WriteDigits(_, _) => {
-            answer_digits(alloc, session, command, behind, data, told, out)
+            answer_digits(server.alloc, session, command, behind, reply)
         }
-        Command::ThreadText(thread) => answer_text(alloc, session, thread, out),
-        _ => match answer_order(alloc, session, command, interrupts, told, out) {
+        Command::ThreadText(thread) => {
+            answer_text(server.alloc, session, thread, &mut reply.payload)
+        }
+        _ => match answer_order(server, session, command, reply) {
             Ok(()) => Ok(()),
             Err(_) => Err(NoMemory),
         },

@@ -3,6 +3,7 @@
 #![tactic(auto)]
 
 mod answering;
+mod carrying;
 mod monitor;
 mod questions;
 mod response;

@@ -10,15 +10,22 @@ use gdb_packets::{PacketItem, push_digits, push_framed};
 use gdb_tape::{part_len, push_bytes};
 use std::alloc::Global;
 
-/// What a session is answered with, and where it is made.
+/// The answer to a command.
+#[derive(Drop)]
+pub(crate) struct Reply {
+    /// The text that is shown to the user.
+    pub(crate) told: String,
+    /// The payload of the packet.
+    pub(crate) payload: Vec<u8>,
+}
+
+/// The answer to a command, and the bytes that are written for it.
 #[derive(Drop)]
 pub(crate) struct Response {
-    /// What a packet is made of.
-    pub(crate) data: Vec<u8>,
-    /// The text that is shown.
-    pub(crate) told: String,
-    /// The payload of the answer.
-    pub(crate) answer: Vec<u8>,
+    /// The answer.
+    pub(crate) reply: Reply,
+    /// The payload of a packet that shows a part of the text.
+    pub(crate) shown: Vec<u8>,
     /// What is written, and what was written last.
     pub(crate) out: Vec<u8>,
 }
@@ -26,9 +33,11 @@ pub(crate) struct Response {
 /// An empty response.
 pub(crate) fn new_response(alloc: Global) -> Response {
     Response {
-        data: Vec::new(alloc),
-        told: String::new(alloc),
-        answer: Vec::new(alloc),
+        reply: Reply {
+            told: String::new(alloc),
+            payload: Vec::new(alloc),
+        },
+        shown: Vec::new(alloc),
         out: Vec::new(alloc),
     }
 }
@@ -88,17 +97,17 @@ fn push_answer(answer: &[u8], silent: bool, out: &mut Vec<u8>) -> Result<(), Ref
 #[tactic(auto, using(crate::proofs::Extending::extends_more))]
 pub(crate) fn push_packets(response: &mut Response, silent: bool) -> Result<(), NoMemory>
     ensures extends { OnOk result (Extends response.old.out.items response.new.out.items) }
-    ensures alone { length (string_bytes response.old.told) ≡ 0 → 0 < length response.old.answer.items → OnOk result (response.new.out.items ≡ response.old.out.items ++ framed response.old.answer.items) }
+    ensures alone { length (string_bytes response.old.reply.told) ≡ 0 → 0 < length response.old.reply.payload.items → OnOk result (response.new.out.items ≡ response.old.out.items ++ framed response.old.reply.payload.items) }
 {
     match push_shown(
-        response.told.as_bytes(),
-        &mut response.data,
+        response.reply.told.as_bytes(),
+        &mut response.shown,
         &mut response.out,
     ) {
         Ok(()) => {}
         Err(_) => return Err(NoMemory),
     }
-    match push_answer(response.answer.as_slice(), silent, &mut response.out) {
+    match push_answer(response.reply.payload.as_slice(), silent, &mut response.out) {
         Ok(()) => Ok(()),
         Err(_) => Err(NoMemory),
     }

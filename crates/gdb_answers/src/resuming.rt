@@ -5,6 +5,8 @@ ghost use Rattle.gdb_answers.specs.Answers.{outcome_told, refusal_told, why_told
 ghost use Rattle.gdb_tape.specs.Tape.{KeepsTape, StandsAt, events};
 ghost use Rattle.gdb_tape.specs.gdb_driving.Interrupts.{lacks_room};
 
+use crate::response::Reply;
+use crate::serving::Server;
 use crate::session::GdbSession;
 use evm_dev::Device;
 use evm_room::{Refused, push_text};
@@ -14,6 +16,17 @@ use gdb_tape::{
     resume, step,
 };
 use std::alloc::Global;
+
+/// How GDB lets the program go on.
+#[derive(Clone, Copy, Debug)]
+pub(crate) struct Resumption {
+    /// By one instruction, or until something stops it.
+    pub(crate) pace: Pace,
+    /// The task that goes on; None for any.
+    pub(crate) thread: Option<u8>,
+    /// The other tasks go on too.
+    pub(crate) others: bool,
+}
 
 // Who goes on if GDB named nobody.
 fn processor_to_step<D: Device>(machine: &Machine<D>, looked: u8) -> u8 {
@@ -32,28 +45,30 @@ fn pick<'a>(alone: bool, own: &'a [u8], all: &'a [u8]) -> &'a [u8] {
 #[tactic(auto, using(crate::proofs::Kept::keeps_same, gdb_tape::proofs::Keeping::keeps_changed))]
 fn go_live<I: Interrupts>(
     session: &mut GdbSession,
-    pace: Pace,
-    thread: Option<u8>,
-    others: bool,
+    resumption: Resumption,
     interrupts: &I,
 ) -> Result<TargetHalt, Refusal>
     ensures kept { KeepsTape session.old.tape session.new.tape }
 {
     session.forget();
     let looked = session.looked;
-    let task = thread.unwrap_or(looked);
+    let task = resumption.thread.unwrap_or(looked);
     let own = [processor_to_step(&session.tape.machine, task)];
-    if pace == Pace::Step && !others {
+    if resumption.pace == Pace::Step && !resumption.others {
         return step(&mut session.tape.machine, &session.points, own[0], looked);
     }
-    let alone = !others && thread.is_some();
+    let alone = !resumption.others && resumption.thread.is_some();
     let going = Going {
         turns: pick(alone, own.as_slice(), session.turns.as_slice()),
         points: &session.points,
         limit: session.limit,
         clock: session.clock,
         looked,
-        until: if pace == Pace::Step { Some(task) } else { None },
+        until: if resumption.pace == Pace::Step {
+            Some(task)
+        } else {
+            None
+        },
     };
     resume(
         &mut session.tape.machine,
@@ -68,14 +83,15 @@ fn go_live<I: Interrupts>(
 fn go_again(
     alloc: Global,
     session: &mut GdbSession,
-    pace: Pace,
-    thread: Option<u8>,
+    resumption: Resumption,
 ) -> Result<TargetHalt, Refusal>
     ensures kept { KeepsTape session.old.tape session.new.tape }
 {
     let looked = session.looked;
-    match pace {
-        Pace::Step => session.tape.step_on(alloc, thread.unwrap_or(looked)),
+    match resumption.pace {
+        Pace::Step => session
+            .tape
+            .step_on(alloc, resumption.thread.unwrap_or(looked)),
         Pace::Continue => session.tape.continue_on(alloc, &session.points, looked),
     }
 }
@@ -157,23 +173,22 @@ pub(crate) fn dropped_text(session: &mut GdbSession) -> &'static str
 fn answer_halt(
     session: &mut GdbSession,
     outcome: Result<TargetHalt, Refusal>,
-    told: &mut String,
-    out: &mut Vec<u8>,
+    reply: &mut Reply,
 ) -> Result<(), Refused>
     ensures { session.new.tape ≡ session.old.tape }
 {
-    push_text(told, dropped_text(session))?;
+    push_text(&mut reply.told, dropped_text(session))?;
     match outcome {
         Ok(halt) => {
             session.halt = halt;
             session.looked = halt.task;
             let note = note_of(session, halt.why);
-            push_text(told, note)?;
-            push_halt(out, &halt)
+            push_text(&mut reply.told, note)?;
+            push_halt(&mut reply.payload, &halt)
         }
         Err(refusal) => {
-            push_text(told, refusal_text(refusal))?;
-            push_error(out, refusal.number())
+            push_text(&mut reply.told, refusal_text(refusal))?;
+            push_error(&mut reply.payload, refusal.number())
         }
     }
 }
@@ -221,20 +236,17 @@ fn full_or<D: Device>(
 // Lets the machine go on: it does again what was done, or is at its last event.
 #[tactic(auto, using(gdb_tape::proofs::Keeping::keeps_same))]
 fn go_on<I: Interrupts>(
-    alloc: Global,
+    server: &Server<'_, I>,
     session: &mut GdbSession,
-    pace: Pace,
-    thread: Option<u8>,
-    others: bool,
-    interrupts: &I,
+    resumption: Resumption,
 ) -> Result<TargetHalt, Refusal>
     ensures kept { KeepsTape session.old.tape session.new.tape }
 {
     if session.tape.is_back() {
-        go_again(alloc, session, pace, thread)
+        go_again(server.alloc, session, resumption)
     } else {
         let looked = session.looked;
-        let outcome = go_live(session, pace, thread, others, interrupts);
+        let outcome = go_live(session, resumption, server.interrupts);
         full_or(&session.tape.machine, looked, outcome)
     }
 }
@@ -242,19 +254,15 @@ fn go_on<I: Interrupts>(
 /// The answer to a command that lets the program go on: why it is stopped again.
 #[tactic(auto, using(gdb_tape::proofs::Keeping::keeps_same))]
 pub(crate) fn answer_resumed<I: Interrupts>(
-    alloc: Global,
+    server: &Server<'_, I>,
     session: &mut GdbSession,
-    pace: Pace,
-    thread: Option<u8>,
-    others: bool,
-    interrupts: &I,
-    told: &mut String,
-    out: &mut Vec<u8>,
+    resumption: Resumption,
+    reply: &mut Reply,
 ) -> Result<(), Refused>
     ensures kept { KeepsTape session.old.tape session.new.tape }
 {
-    let outcome = go_on(alloc, session, pace, thread, others, interrupts);
-    answer_halt(session, outcome, told, out)
+    let outcome = go_on(server, session, resumption);
+    answer_halt(session, outcome, reply)
 }
 
 /// The answer to a command that lets the program go back: where it is, and why.
@@ -263,12 +271,11 @@ pub(crate) fn answer_reversed(
     alloc: Global,
     session: &mut GdbSession,
     pace: Pace,
-    told: &mut String,
-    out: &mut Vec<u8>,
+    reply: &mut Reply,
 ) -> Result<(), Refused>
     ensures kept { KeepsTape session.old.tape session.new.tape }
     ensures events { events session.new.tape ≡ events session.old.tape }
 {
     let outcome = go_back(alloc, session, pace);
-    answer_halt(session, outcome, told, out)
+    answer_halt(session, outcome, reply)
 }

@@ -35,13 +35,38 @@ pub enum Ended {
     WriteFailed(WriteFault),
 }
 
+/// What a session is served with.
+#[derive(Drop)]
+pub(crate) struct Server<'a, I: Interrupts> {
+    /// Where memory comes from.
+    pub(crate) alloc: Global,
+    /// Whether a stop of what goes on is asked for.
+    pub(crate) interrupts: &'a I,
+}
+
+/// A packet and its answer.
+#[derive(Drop)]
+struct Exchange {
+    /// The payload of the packet that was read last.
+    payload: Vec<u8>,
+    /// The answer to it.
+    response: Response,
+}
+
+// An exchange with nothing in it.
+fn new_exchange(alloc: Global) -> Exchange {
+    Exchange {
+        payload: Vec::new(alloc),
+        response: new_response(alloc),
+    }
+}
+
 // Does a command, and appends the packets of its answer.
 fn answer_command<I: Interrupts>(
-    alloc: Global,
+    server: &Server<'_, I>,
     session: &mut GdbSession,
     command: Command,
     behind: &[u8],
-    interrupts: &I,
     response: &mut Response,
 ) -> Result<(), NoMemory>
     ensures points { OnOk result (IfSome (points_asked session.old.tape.machine session.old.points command) (λ outcome. ArePointsSet reply outcome session.old.points session.new.points response.old.out.items response.new.out.items)) }
@@ -49,31 +74,19 @@ fn answer_command<I: Interrupts>(
     ensures kept { KeepsTape session.old.tape session.new.tape }
     ensures extends { OnOk result (Extends response.old.out.items response.new.out.items) }
 {
-    response.told.clear();
-    response.answer.clear();
+    response.reply.told.clear();
+    response.reply.payload.clear();
     let silent = !has_reply(session.extended, command);
-    match answer(
-        alloc,
-        session,
-        command,
-        behind,
-        interrupts,
-        &mut response.data,
-        &mut response.told,
-        &mut response.answer,
-    ) {
-        Ok(()) => push_packets(response, silent),
-        Err(NoMemory) => Err(NoMemory),
-    }
+    answer(server, session, command, behind, &mut response.reply)?;
+    push_packets(response, silent)
 }
 
 // Answers a payload.
 #[tactic(auto, using(gdb_tape::proofs::Keeping::keeps_same, crate::proofs::Extending::extends_by))]
 fn answer_payload<I: Interrupts>(
-    alloc: Global,
+    server: &Server<'_, I>,
     session: &mut GdbSession,
     payload: &[u8],
-    interrupts: &I,
     response: &mut Response,
 ) -> Result<(), NoMemory>
     ensures points { OnOk result (IfSome (payload_points payload.now session.old.tape.machine session.old.points) (λ outcome. ArePointsSet reply outcome session.old.points session.new.points response.old.out.items response.new.out.items)) }
@@ -84,9 +97,7 @@ fn answer_payload<I: Interrupts>(
     ensures empty { command_at payload.now ≡ Option.None → OnOk result (response.new.out.items ≡ response.old.out.items ++ framed []) }
 {
     match read_command(payload) {
-        Some((command, behind)) => answer_command(
-            alloc, session, command, behind, interrupts, response,
-        ),
+        Some((command, behind)) => answer_command(server, session, command, behind, response),
         None => push_none(&mut response.out),
     }
 }
@@ -94,11 +105,10 @@ fn answer_payload<I: Interrupts>(
 // Makes what is to be written for an item: its acknowledgement, and the packets of the answer to a payload.
 #[tactic(auto, using(gdb_tape::proofs::Keeping::keeps_same, crate::proofs::Extending::extends_none))]
 fn hear<I: Interrupts>(
-    alloc: Global,
+    server: &Server<'_, I>,
     session: &mut GdbSession,
     item: PacketItem,
     payload: &[u8],
-    interrupts: &I,
     response: &mut Response,
 ) -> Result<(), NoMemory>
     ensures points { item ≡ PacketItem.Packet → OnOk result (IfSome (payload_points payload.now session.old.tape.machine session.old.points) (λ outcome. ArePointsSet reply outcome session.old.points session.new.points (acknowledgement session.old.acknowledges item) response.new.out.items)) }
@@ -113,7 +123,7 @@ fn hear<I: Interrupts>(
     response.out.clear();
     push_sign(session.acknowledges, item, &mut response.out)?;
     match item {
-        PacketItem::Packet => answer_payload(alloc, session, payload, interrupts, response),
+        PacketItem::Packet => answer_payload(server, session, payload, response),
         _ => Ok(()),
     }
 }
@@ -129,11 +139,10 @@ fn is_answered(item: PacketItem) -> bool {
 // Makes what is written for an item; what was written last stays where nothing new is.
 #[tactic(auto, using(gdb_tape::proofs::Keeping::keeps_same))]
 fn prepare<I: Interrupts>(
-    alloc: Global,
+    server: &Server<'_, I>,
     session: &mut GdbSession,
     item: PacketItem,
     payload: &[u8],
-    interrupts: &I,
     response: &mut Response,
 ) -> Result<(), NoMemory>
     ensures points { item ≡ PacketItem.Packet → OnOk result (IfSome (payload_points payload.now session.old.tape.machine session.old.points) (λ outcome. ArePointsSet reply outcome session.old.points session.new.points (acknowledgement session.old.acknowledges item) response.new.out.items)) }
@@ -141,9 +150,9 @@ fn prepare<I: Interrupts>(
     ensures kept { KeepsTape session.old.tape session.new.tape }
 {
     match item {
-        PacketItem::Packet | PacketItem::Damaged => hear(
-            alloc, session, item, payload, interrupts, response,
-        ),
+        PacketItem::Packet | PacketItem::Damaged => {
+            hear(server, session, item, payload, response)
+        }
         _ => Ok(()),
     }
 }
@@ -174,25 +183,24 @@ fn make_way(session: &mut GdbSession, item: PacketItem, payload: &[u8])
 // Answers an item.
 #[tactic(auto, using(gdb_tape::proofs::Keeping::keeps_same, gdb_tape::proofs::Keeping::keeps_more))]
 fn serve_item<W: Sink, I: Interrupts>(
-    alloc: Global,
+    server: &Server<'_, I>,
     session: &mut GdbSession,
     item: PacketItem,
-    payload: &[u8],
-    interrupts: &I,
-    response: &mut Response,
+    exchange: &mut Exchange,
     sink: &mut W,
 ) -> Result<(), Ended>
     ensures kept { KeepsTape session.old.tape session.new.tape }
 {
+    let payload = exchange.payload.as_slice();
     make_way(session, item, payload);
-    match prepare(alloc, session, item, payload, interrupts, response) {
+    match prepare(server, session, item, payload, &mut exchange.response) {
         Ok(()) => {}
         Err(NoMemory) => return Err(Ended::NoMemory),
     }
     if !is_answered(item) {
         return Ok(());
     }
-    match write_all(sink, response.out.as_slice()) {
+    match write_all(sink, exchange.response.out.as_slice()) {
         Ok(()) => Ok(()),
         Err(fault) => Err(Ended::WriteFailed(fault)),
     }
@@ -201,12 +209,10 @@ fn serve_item<W: Sink, I: Interrupts>(
 // Answers the items that are whole in some bytes: how many bytes are left. One for which the machine is to boot anew is left.
 #[tactic(auto, using(gdb_tape::proofs::Keeping::keeps_same, gdb_tape::proofs::Keeping::keeps_more))]
 fn serve_items<W: Sink, I: Interrupts>(
-    alloc: Global,
+    server: &Server<'_, I>,
     session: &mut GdbSession,
     bytes: &[u8],
-    interrupts: &I,
-    payload: &mut Vec<u8>,
-    response: &mut Response,
+    exchange: &mut Exchange,
     sink: &mut W,
 ) -> Result<usize, Ended>
     ensures kept { KeepsTape session.old.tape session.new.tape }
@@ -216,26 +222,16 @@ fn serve_items<W: Sink, I: Interrupts>(
         if session.over {
             return Ok(0);
         }
-        match read_item(rest, payload) {
+        match read_item(rest, &mut exchange.payload) {
             Err(_) => return Err(Ended::NoMemory),
             Ok(None) => return Ok(rest.len()),
             Ok(Some((item, after))) => {
-                if waits_for_boot(session, item, payload.as_slice()) {
+                if waits_for_boot(session, item, exchange.payload.as_slice()) {
                     session.booting = Booting::Asked;
                     return Ok(rest.len());
                 }
-                match serve_item(
-                    alloc,
-                    session,
-                    item,
-                    payload.as_slice(),
-                    interrupts,
-                    response,
-                    sink,
-                ) {
-                    Ok(()) => rest = after,
-                    Err(ended) => return Err(ended),
-                }
+                serve_item(server, session, item, exchange, sink)?;
+                rest = after;
                 session.booting = Booting::Idle;
             }
         }
@@ -276,19 +272,14 @@ pub fn serve_gdb<R: Source + Interrupts, W: Sink>(
 ) -> Ended
     ensures kept { KeepsTape session.old.tape session.new.tape }
 {
-    let mut response = new_response(alloc);
+    let mut exchange = new_exchange(alloc);
     let mut heard = mem::replace(&mut session.heard, Vec::new(alloc));
-    let mut payload = Vec::new(alloc);
     'parts: for _ in 0..u64::MAX {
-        match serve_items(
+        let server = Server {
             alloc,
-            session,
-            heard.as_slice(),
-            source,
-            &mut payload,
-            &mut response,
-            sink,
-        ) {
+            interrupts: &*source,
+        };
+        match serve_items(&server, session, heard.as_slice(), &mut exchange, sink) {
             Ok(left) => keep_last(&mut heard, left),
             Err(ended) => return ended,
         }

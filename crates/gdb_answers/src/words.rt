@@ -28,9 +28,9 @@ fn put_named(
 }
 
 // The line of a task among those of all, without the two blanks in front.
-fn line_of(lines: &[u8], t: u8) -> &[u8] {
+fn line_of(lines: &[u8], task: u8) -> &[u8] {
     let mut rest = lines;
-    'lines: for _ in 0..t {
+    'lines: for _ in 0..task {
         rest = match cut_line(rest) {
             Some((_, after)) => after,
             None => return b"",
@@ -43,8 +43,13 @@ fn line_of(lines: &[u8], t: u8) -> &[u8] {
 }
 
 // The event since which a task has been in its state; nothing if it began so.
-fn put_since(alloc: Global, page: &mut Page, session: &GdbSession, t: u8) -> Result<(), NoMemory> {
-    let Ok(Some(event)) = session.tape.since(alloc, t) else {
+fn put_since(
+    alloc: Global,
+    page: &mut Page,
+    session: &GdbSession,
+    task: u8,
+) -> Result<(), NoMemory> {
+    let Ok(Some(event)) = session.tape.since(alloc, task) else {
         return Ok(());
     };
     page.put("since event ")?;
@@ -62,23 +67,29 @@ fn put_deadline(page: &mut Page, task: &Task) -> Result<(), NoMemory> {
     page.put(", ")
 }
 
+/// A task, and its line among those of all.
+#[derive(Clone, Copy)]
+struct ListedTask<'a> {
+    number: u8,
+    task: &'a Task,
+    line: &'a [u8],
+}
+
 // What the line of a task says, and since when it is so, its rank and its processor.
 fn put_task(
     alloc: Global,
     page: &mut Page,
     session: &GdbSession,
-    line: &[u8],
-    t: u8,
-    task: &Task,
+    listed: ListedTask<'_>,
 ) -> Result<(), NoMemory> {
-    page.put_bytes(line)?;
+    page.put_bytes(listed.line)?;
     page.put("; ")?;
-    put_since(alloc, page, session, t)?;
-    put_deadline(page, task)?;
+    put_since(alloc, page, session, listed.number)?;
+    put_deadline(page, listed.task)?;
     page.put("rank ")?;
-    page.put_decimal(u64::from(session.tape.machine.rank(t)))?;
+    page.put_decimal(u64::from(session.tape.machine.rank(listed.number)))?;
     page.put(", processor ")?;
-    page.put_decimal(u64::from(task.cpu))
+    page.put_decimal(u64::from(listed.task.cpu))
 }
 
 /// What there is to say of a task: its name, its state and since which event, its rank and its processor.
@@ -86,16 +97,20 @@ pub(crate) fn put_thread(
     alloc: Global,
     page: &mut Page,
     session: &GdbSession,
-    t: u8,
+    number: u8,
 ) -> Result<(), NoMemory> {
-    let Some(task) = session.tape.machine.task(t) else {
+    let Some(task) = session.tape.machine.task(number) else {
         return Ok(());
     };
     let notes = Notes::new(alloc)?;
     let mut lines = Page::new(alloc);
     put_view(&mut lines, session, &notes, &View::Tasks)?;
-    let line = line_of(lines.bytes(), t);
-    put_task(alloc, page, session, line, t, &task)
+    let listed = ListedTask {
+        number,
+        task: &task,
+        line: line_of(lines.bytes(), number),
+    };
+    put_task(alloc, page, session, listed)
 }
 
 // Where a processor runs its task.
@@ -106,11 +121,11 @@ fn put_at(page: &mut Page, session: &GdbSession, hart: &Hart) -> Result<(), NoMe
 
 // The task of a processor, if it has one.
 fn put_current(page: &mut Page, session: &GdbSession, current: Option<u8>) -> Result<(), NoMemory> {
-    let Some(t) = current else {
+    let Some(task) = current else {
         return page.put("no task");
     };
-    put_named(page, session, ObjectKind::Task, t)?;
-    match session.tape.machine.hart(t) {
+    put_named(page, session, ObjectKind::Task, task)?;
+    match session.tape.machine.hart(task) {
         Some(hart) => put_at(page, session, &hart),
         None => Ok(()),
     }
@@ -121,24 +136,24 @@ fn put_processor(
     page: &mut Page,
     session: &GdbSession,
     notes: &Notes,
-    c: u8,
+    cpu: u8,
 ) -> Result<(), NoMemory> {
-    let Some(processor) = session.tape.machine.cpu(c) else {
+    let Some(processor) = session.tape.machine.cpu(cpu) else {
         return Ok(());
     };
     page.put("processor ")?;
-    page.put_decimal(u64::from(c))?;
+    page.put_decimal(u64::from(cpu))?;
     page.put(" runs ")?;
     put_current(page, session, processor.current)?;
     page.put("\n")?;
-    put_view(page, session, notes, &View::Stages(c))
+    put_view(page, session, notes, &View::Stages(cpu))
 }
 
 // Whether a processor runs a task.
-fn runs(session: &GdbSession, t: u8) -> bool {
-    for c in 0..session.tape.machine.cpu_count() {
-        if let Some(processor) = session.tape.machine.cpu(c)
-            && processor.current == Some(t)
+fn runs(session: &GdbSession, task: u8) -> bool {
+    for cpu in 0..session.tape.machine.cpu_count() {
+        if let Some(processor) = session.tape.machine.cpu(cpu)
+            && processor.current == Some(task)
         {
             return true;
         }
@@ -152,27 +167,32 @@ fn put_other(
     page: &mut Page,
     session: &GdbSession,
     line: &[u8],
-    t: u8,
+    number: u8,
 ) -> Result<(), NoMemory> {
-    let Some(task) = session.tape.machine.task(t) else {
+    let Some(task) = session.tape.machine.task(number) else {
         return Ok(());
     };
-    if task.state == TaskState::Exit || runs(session, t) {
+    if task.state == TaskState::Exit || runs(session, number) {
         return Ok(());
     }
-    put_task(alloc, page, session, line, t, &task)?;
+    let listed = ListedTask {
+        number,
+        task: &task,
+        line,
+    };
+    put_task(alloc, page, session, listed)?;
     page.put("\n")
 }
 
 // A mutex that has an owner, and the rank of the owner.
-fn put_owned(page: &mut Page, session: &GdbSession, m: u8) -> Result<(), NoMemory> {
-    let Some(mutex) = session.tape.machine.mutex(m) else {
+fn put_owned(page: &mut Page, session: &GdbSession, number: u8) -> Result<(), NoMemory> {
+    let Some(mutex) = session.tape.machine.mutex(number) else {
         return Ok(());
     };
     let Some(owner) = mutex.owner else {
         return Ok(());
     };
-    put_named(page, session, ObjectKind::Mutex, m)?;
+    put_named(page, session, ObjectKind::Mutex, number)?;
     page.put(" is owned by ")?;
     put_named(page, session, ObjectKind::Task, owner)?;
     page.put(", of rank ")?;
@@ -188,17 +208,17 @@ pub(crate) fn put_machine(
     session: &GdbSession,
 ) -> Result<(), NoMemory> {
     let notes = Notes::new(alloc)?;
-    for c in 0..session.tape.machine.cpu_count() {
-        put_processor(page, session, &notes, c)?;
+    for cpu in 0..session.tape.machine.cpu_count() {
+        put_processor(page, session, &notes, cpu)?;
     }
     let mut lines = Page::new(alloc);
     put_view(&mut lines, session, &notes, &View::Tasks)?;
-    for t in 0..session.tape.machine.task_count() {
-        let line = line_of(lines.bytes(), t);
-        put_other(alloc, page, session, line, t)?;
+    for task in 0..session.tape.machine.task_count() {
+        let line = line_of(lines.bytes(), task);
+        put_other(alloc, page, session, line, task)?;
     }
-    for m in 0..session.tape.machine.mutex_count() {
-        put_owned(page, session, m)?;
+    for mutex in 0..session.tape.machine.mutex_count() {
+        put_owned(page, session, mutex)?;
     }
     Ok(())
 }

@@ -10,6 +10,7 @@ mod points;
 mod registers;
 mod running;
 mod seeing;
+mod stepping;
 mod stops;
 mod threads;
 
@@ -23,7 +24,8 @@ pub use gdb_packets::Interrupts;
 pub use memory::{is_inside, push_memory, write};
 pub use points::{Points, WATCH_LIMIT, WatchPoint, WatchPoints};
 pub use registers::{processor_of, push_registers, register, set_register, set_registers, word_at};
-pub use running::{Going, Round, lacks_room, resume, step};
+pub use running::{Going, Round, lacks_room, resume};
 pub use seeing::{Next, break_at, doer_of, halt_after, has_going, next_of, watch_at};
+pub use stepping::step;
 pub use stops::{TargetHalt, Why, push_halt};
 pub use threads::push_threads;

@@ -1,4 +1,4 @@
-//! A program that goes on: one instruction, or until something stops it.
+//! A program that goes on until something stops it.
 
 ghost use Rattle.std.specs.Prelude.{◌≡◌, IfOk, IfSome, true};
 ghost use Rattle.gdb_driving.specs.Interrupts.{HaltsAlone, OnlyIfAsked, IsAlone, lacks_room, room_to_run};
@@ -7,7 +7,7 @@ ghost use Rattle.gdb_driving.specs.Kept.{KeepsJournal};
 use crate::clock::is_pending;
 use crate::driving::{event, go_all, stop_all};
 use crate::points::Points;
-use crate::seeing::{Next, break_at, current_or, fault_of, halt_after, next_of, watch_at};
+use crate::seeing::{Next, break_at, halt_after, next_of, watch_at};
 use crate::stops::{TargetHalt, Why};
 use evm_debug::{Answer, Event, Machine, Refusal};
 use evm_dev::Device;
@@ -96,10 +96,8 @@ fn tick<D: Device>(machine: &mut Machine<D>, round: &mut Round) -> Result<(), Re
     ensures kept { KeepsJournal machine.old machine.new }
 {
     round.rounds = 0;
-    match event(machine, Event::Tick) {
-        Ok(_) => Ok(()),
-        Err(refusal) => Err(refusal),
-    }
+    event(machine, Event::Tick)?;
+    Ok(())
 }
 
 // What is done where no processor has anything to do: a tick, if something comes of it.
@@ -118,10 +116,8 @@ fn rest<D: Device>(
             why: Why::Idle,
         }));
     }
-    match tick(machine, round) {
-        Ok(()) => Ok(None),
-        Err(refusal) => Err(refusal),
-    }
+    tick(machine, round)?;
+    Ok(None)
 }
 
 // Who is stopped behind a step of a processor, and why.
@@ -188,10 +184,8 @@ fn run_task<D: Device>(
         round.passes = None;
     }
     let watched = watch_at(machine, going.points, task);
-    match event(machine, Event::Step(c)) {
-        Ok(answer) => Ok(halt_behind(machine, going.until, c, answer, watched)),
-        Err(refusal) => Err(refusal),
-    }
+    let answer = event(machine, Event::Step(c))?;
+    Ok(halt_behind(machine, going.until, c, answer, watched))
 }
 
 // The step of a processor that receives a line, or takes up a task.
@@ -200,10 +194,8 @@ fn run_line<D: Device>(machine: &mut Machine<D>, c: u8) -> Result<Option<TargetH
     ensures kept { KeepsJournal machine.old machine.new }
     ensures halts { IfOk result HaltsAlone }
 {
-    match event(machine, Event::Step(c)) {
-        Ok(answer) => Ok(halt_after(machine, c, answer)),
-        Err(refusal) => Err(refusal),
-    }
+    let answer = event(machine, Event::Step(c))?;
+    Ok(halt_after(machine, c, answer))
 }
 
 // One event: a step of the next turn, or a tick.
@@ -221,10 +213,8 @@ fn run_turn<D: Device>(
     };
     round.come(at);
     if going.clock != 0 && round.rounds >= going.clock {
-        return match tick(machine, round) {
-            Ok(()) => Ok(None),
-            Err(refusal) => Err(refusal),
-        };
+        tick(machine, round)?;
+        return Ok(None);
     }
     let c = going.turns.get(at).copied().unwrap_or(0);
     let outcome = match next {
@@ -250,10 +240,8 @@ fn run_some<D: Device>(
     ensures halts { IfOk result HaltsAlone }
 {
     'steps: for _ in 0..count {
-        match run_turn(machine, going, round) {
-            Ok(None) => {}
-            Ok(Some(halt)) => return Ok(Some(halt)),
-            Err(refusal) => return Err(refusal),
+        if let Some(halt) = run_turn(machine, going, round)? {
+            return Ok(Some(halt));
         }
     }
     Ok(None)
@@ -280,10 +268,8 @@ fn run<D: Device, I: Interrupts>(
             });
         }
         let count = left.min(PATIENCE);
-        match run_some(machine, going, round, count) {
-            Ok(Some(halt)) => return Ok(halt),
-            Ok(None) => {}
-            Err(refusal) => return Err(refusal),
+        if let Some(halt) = run_some(machine, going, round, count)? {
+            return Ok(halt);
         }
         left -= count;
     }
@@ -329,78 +315,9 @@ pub fn resume<D: Device, I: Interrupts>(
     if most == 0 {
         return Err(Refusal::Full);
     }
-    if let Err(refusal) = go_all(machine) {
-        return Err(refusal);
-    }
+    go_all(machine)?;
     round.passes = Some(going.looked);
     let outcome = run(machine, going, round, most, interrupts);
-    match stop_all(machine) {
-        Ok(()) => outcome,
-        Err(refusal) => Err(refusal),
-    }
-}
-
-/// How many lines are received at most before the instruction of a step.
-const LINES_BEFORE: u32 = 64;
-
-// Who is stopped behind an instruction of a task: the task if it ended by a fault or met a watchpoint, else who runs now.
-fn stepped<D: Device>(machine: &Machine<D>, c: u8, task: u8, watched: Option<Why>) -> TargetHalt {
-    if let Some(halt) = fault_of(machine, task) {
-        return halt;
-    }
-    match watched {
-        Some(why) => TargetHalt { task, why },
-        None => TargetHalt {
-            task: current_or(machine, c, task),
-            why: Why::Asked,
-        },
-    }
-}
-
-// Why the step of a processor meets a watchpoint.
-fn watched_by<D: Device>(machine: &Machine<D>, points: &Points, next: Next) -> Option<Why> {
-    match next {
-        Next::Runs(task) => watch_at(machine, points, task),
-        Next::Prepares | Next::Idles => None,
-    }
-}
-
-/// One instruction of a processor, behind the lines that it receives first: who is stopped then. All are stopped before it.
-///
-/// # Errors
-///
-/// Why the first event was refused that was; those before it were made.
-#[tactic(auto, using(crate::proofs::Kept::keeps_same, crate::proofs::Kept::keeps_more))]
-pub fn step<D: Device>(
-    machine: &mut Machine<D>,
-    points: &Points,
-    c: u8,
-    looked: u8,
-) -> Result<TargetHalt, Refusal>
-    ensures kept { KeepsJournal machine.old machine.new }
-{
-    if let Err(refusal) = stop_all(machine) {
-        return Err(refusal);
-    }
-    'lines: for _ in 0..LINES_BEFORE {
-        let next = next_of(machine, c);
-        let watched = watched_by(machine, points, next);
-        if let Err(refusal) = event(machine, Event::StepI(c)) {
-            return Err(refusal);
-        }
-        match next {
-            Next::Prepares => {}
-            Next::Runs(task) => return Ok(stepped(machine, c, task, watched)),
-            Next::Idles => {
-                return Ok(TargetHalt {
-                    task: looked,
-                    why: Why::Idle,
-                });
-            }
-        }
-    }
-    Ok(TargetHalt {
-        task: current_or(machine, c, looked),
-        why: Why::Asked,
-    })
+    stop_all(machine)?;
+    outcome
 }

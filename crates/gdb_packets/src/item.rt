@@ -81,10 +81,8 @@ fn read_payload(body: &[u8], payload: &mut Vec<u8>) -> Result<bool, Refused>
             return Ok(false);
         }
         if escape {
-            match push_byte(payload, turned(byte)) {
-                Ok(()) => escape = false,
-                Err(refused) => return Err(refused),
-            }
+            push_byte(payload, turned(byte))?;
+            escape = false;
         } else if byte == ESCAPE {
             escape = true;
         } else {
@@ -102,10 +100,10 @@ fn checked(body: &[u8], high: u8, low: u8, payload: &mut Vec<u8>) -> Result<Pack
     if !says(body, high, low) {
         return Ok(PacketItem::Damaged);
     }
-    match read_payload(body, payload) {
-        Ok(true) => Ok(PacketItem::Packet),
-        Ok(false) => Ok(PacketItem::Damaged),
-        Err(refused) => Err(refused),
+    if read_payload(body, payload)? {
+        Ok(PacketItem::Packet)
+    } else {
+        Ok(PacketItem::Damaged)
     }
 }
 
@@ -118,10 +116,10 @@ fn packet_behind<'a>(
     ensures refused { IfErr result (λ asked. asked ≡ 1) }
 {
     match behind {
-        [high, low, rest @ ..] => match checked(body, *high, *low, payload) {
-            Ok(item) => Ok(Some((item, rest))),
-            Err(refused) => Err(refused),
-        },
+        [high, low, rest @ ..] => {
+            let item = checked(body, *high, *low, payload)?;
+            Ok(Some((item, rest)))
+        }
         _ => Ok(None),
     }
 }
