@@ -85,6 +85,33 @@ fn look_at(session: &mut GdbSession, thread: Option<u8>, out: &mut Vec<u8>) -> R
     push_bytes(out, b"OK")
 }
 
+// The answer to a command that changes what GDB has chosen, or by which it leaves.
+#[tactic(auto, using(gdb_tape::proofs::Keeping::keeps_same))]
+fn answer_choice(
+    session: &mut GdbSession,
+    command: Command,
+    out: &mut Vec<u8>,
+) -> Result<(), Refused>
+    ensures kept { KeepsTape session.old.tape session.new.tape }
+{
+    match command {
+        Command::Look(thread) => look_at(session, thread, out),
+        Command::Choose(thread) => {
+            session.chosen = thread;
+            push_bytes(out, b"OK")
+        }
+        Command::NoAcknowledgements => {
+            session.acknowledges = false;
+            push_bytes(out, b"OK")
+        }
+        Command::Detach => {
+            session.over = true;
+            push_bytes(out, b"OK")
+        }
+        _ => Ok(()),
+    }
+}
+
 // Does a line of the monitor, of digits.
 #[tactic(auto, using(gdb_tape::proofs::Keeping::keeps_same))]
 fn answer_monitor(
@@ -197,19 +224,8 @@ fn answer_order<I: Interrupts>(
         | Command::Remove(_, _)
         | Command::Watch(_, _, _)
         | Command::Unwatch(_, _, _) => answer_points(session, command, &mut reply.payload),
-        Command::Look(thread) => look_at(session, thread, &mut reply.payload),
-        Command::Choose(thread) => {
-            session.chosen = thread;
-            push_bytes(&mut reply.payload, b"OK")
-        }
-        Command::NoAcknowledgements => {
-            session.acknowledges = false;
-            push_bytes(&mut reply.payload, b"OK")
-        }
-        Command::Detach => {
-            session.over = true;
-            push_bytes(&mut reply.payload, b"OK")
-        }
+        Command::Look(_) | Command::Choose(_) | Command::NoAcknowledgements | Command::Detach =>
+            answer_choice(session, command, &mut reply.payload),
         Command::Kill => {
             session.over = !session.extended;
             Ok(())

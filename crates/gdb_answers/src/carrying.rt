@@ -18,10 +18,10 @@ use gdb_tape::{Machine, Refusal, processor_of, set_register, set_registers, word
 fn write_register<D: Device>(
     machine: &mut Machine<D>,
     looked: u8,
-    r: u64,
+    number: u64,
     bytes: &[u8],
 ) -> Result<(), Refusal>
-    ensures made { MakesAsked (register_write looked r bytes.now machine.old.board.parts) result machine.old machine.new }
+    ensures made { MakesAsked (register_write looked number bytes.now machine.old.board.parts) result machine.old machine.new }
     ensures kept { KeepsJournal machine.old machine.new }
     ensures unchanged { OnErr result (machine.new ≡ machine.old) }
 {
@@ -32,7 +32,7 @@ fn write_register<D: Device>(
         return Err(Refusal::BadRegister);
     }
     match processor_of(machine, looked) {
-        Ok(c) => set_register(machine, c, r, value),
+        Ok(cpu) => set_register(machine, cpu, number, value),
         Err(refusal) => Err(refusal),
     }
 }
@@ -71,12 +71,12 @@ fn carry_registers(session: &mut GdbSession, bytes: &[u8]) -> Result<(), Refusal
 
 // Sets a register of the task that is looked at. If it is set events behind the place are dropped.
 #[tactic(auto, using(gdb_tape::proofs::Keeping::keeps_same, gdb_tape::proofs::Keeping::keeps_changed))]
-fn carry_register(session: &mut GdbSession, r: u64, bytes: &[u8]) -> Result<(), Refusal>
-    ensures made { MakesAsked (register_write session.old.looked r bytes.now session.old.tape.machine.board.parts) result session.old.tape.machine session.new.tape.machine }
+fn carry_register(session: &mut GdbSession, number: u64, bytes: &[u8]) -> Result<(), Refusal>
+    ensures made { MakesAsked (register_write session.old.looked number bytes.now session.old.tape.machine.board.parts) result session.old.tape.machine session.new.tape.machine }
     ensures kept { KeepsTape session.old.tape session.new.tape }
 {
     let looked = session.looked;
-    match write_register(&mut session.tape.machine, looked, r, bytes) {
+    match write_register(&mut session.tape.machine, looked, number, bytes) {
         Ok(()) => {
             session.forget();
             Ok(())
@@ -121,7 +121,7 @@ pub(crate) fn carry_out(
 {
     match command {
         Command::SetRegisters => carry_registers(session, bytes),
-        Command::SetRegister(r) => carry_register(session, r, bytes),
+        Command::SetRegister(number) => carry_register(session, number, bytes),
         Command::WriteDigits(address, count) | Command::WriteBytes(address, count) => {
             carry_bytes(session, address, count, bytes)
         }

@@ -24,14 +24,14 @@ fn answer_registers(session: &GdbSession, out: &mut Vec<u8>) -> Result<(), Refus
 }
 
 // Appends a register of the task that is looked at.
-fn answer_register(session: &GdbSession, r: u64, out: &mut Vec<u8>) -> Result<(), Refused>
-    ensures ok { OnOk result (out.new.items ≡ out.old.items ++ register_reply r (slice_get session.now.tape.machine.board.parts.harts session.now.looked)) }
+fn answer_register(session: &GdbSession, number: u64, out: &mut Vec<u8>) -> Result<(), Refused>
+    ensures ok { OnOk result (out.new.items ≡ out.old.items ++ register_reply number (slice_get session.now.tape.machine.board.parts.harts session.now.looked)) }
 {
-    if r > 32 {
+    if number > 32 {
         return push_error(out, Refusal::BadRegister.number());
     }
     match session.tape.machine.hart(session.looked) {
-        Some(hart) => push_word(out, register(&hart, r as u8)),
+        Some(hart) => push_word(out, register(&hart, number as u8)),
         None => push_error(out, Refusal::NoTask.number()),
     }
 }

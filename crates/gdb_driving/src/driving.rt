@@ -21,12 +21,12 @@ pub fn event<D: Device>(machine: &mut Machine<D>, event: Event<&Block>) -> Resul
 
 // Stops a processor that is not stopped.
 #[tactic(auto, using(crate::proofs::Kept::keeps_same))]
-fn stop<D: Device>(machine: &mut Machine<D>, c: u8) -> Result<(), Refusal>
+fn stop<D: Device>(machine: &mut Machine<D>, cpu: u8) -> Result<(), Refusal>
     ensures kept { KeepsJournal machine.old machine.new }
 {
-    match machine.cpu(c) {
+    match machine.cpu(cpu) {
         Some(processor) if processor.stopped => Ok(()),
-        _ => match event(machine, Event::Stop(c)) {
+        _ => match event(machine, Event::Stop(cpu)) {
             Ok(_) => Ok(()),
             Err(refusal) => Err(refusal),
         },
@@ -50,11 +50,11 @@ pub fn stop_all<D: Device>(machine: &mut Machine<D>) -> Result<(), Refusal>
 
 // Lets a stopped processor go on.
 #[tactic(auto, using(crate::proofs::Kept::keeps_same))]
-fn go<D: Device>(machine: &mut Machine<D>, c: u8) -> Result<(), Refusal>
+fn go<D: Device>(machine: &mut Machine<D>, cpu: u8) -> Result<(), Refusal>
     ensures kept { KeepsJournal machine.old machine.new }
 {
-    match machine.cpu(c) {
-        Some(processor) if processor.stopped => match event(machine, Event::Go(c)) {
+    match machine.cpu(cpu) {
+        Some(processor) if processor.stopped => match event(machine, Event::Go(cpu)) {
             Ok(_) => Ok(()),
             Err(refusal) => Err(refusal),
         },

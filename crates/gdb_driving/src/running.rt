@@ -124,14 +124,14 @@ fn rest<D: Device>(
 fn halt_behind<D: Device>(
     machine: &Machine<D>,
     until: Option<u8>,
-    c: u8,
+    cpu: u8,
     answer: Answer,
     watched: Option<Why>,
 ) -> Option<TargetHalt>
     requires { IfSome watched IsAlone }
     ensures { HaltsAlone result }
 {
-    if let Some(halt) = halt_after(machine, c, answer) {
+    if let Some(halt) = halt_after(machine, cpu, answer) {
         return Some(halt);
     }
     let Answer::Ran(task) = answer else {
@@ -171,7 +171,7 @@ fn run_task<D: Device>(
     machine: &mut Machine<D>,
     going: &Going<'_>,
     round: &mut Round,
-    c: u8,
+    cpu: u8,
     task: u8,
 ) -> Result<Option<TargetHalt>, Refusal>
     ensures kept { KeepsJournal machine.old machine.new }
@@ -184,18 +184,18 @@ fn run_task<D: Device>(
         round.passes = None;
     }
     let watched = watch_at(machine, going.points, task);
-    let answer = event(machine, Event::Step(c))?;
-    Ok(halt_behind(machine, going.until, c, answer, watched))
+    let answer = event(machine, Event::Step(cpu))?;
+    Ok(halt_behind(machine, going.until, cpu, answer, watched))
 }
 
 // The step of a processor that receives a line, or takes up a task.
 #[tactic(auto, using(crate::proofs::Kept::keeps_same))]
-fn run_line<D: Device>(machine: &mut Machine<D>, c: u8) -> Result<Option<TargetHalt>, Refusal>
+fn run_line<D: Device>(machine: &mut Machine<D>, cpu: u8) -> Result<Option<TargetHalt>, Refusal>
     ensures kept { KeepsJournal machine.old machine.new }
     ensures halts { IfOk result HaltsAlone }
 {
-    let answer = event(machine, Event::Step(c))?;
-    Ok(halt_after(machine, c, answer))
+    let answer = event(machine, Event::Step(cpu))?;
+    Ok(halt_after(machine, cpu, answer))
 }
 
 // One event: a step of the next turn, or a tick.
@@ -216,10 +216,10 @@ fn run_turn<D: Device>(
         tick(machine, round)?;
         return Ok(None);
     }
-    let c = going.turns.get(at).copied().unwrap_or(0);
+    let cpu = going.turns.get(at).copied().unwrap_or(0);
     let outcome = match next {
-        Next::Runs(task) => run_task(machine, going, round, c, task),
-        Next::Prepares | Next::Idles => run_line(machine, c),
+        Next::Runs(task) => run_task(machine, going, round, cpu, task),
+        Next::Prepares | Next::Idles => run_line(machine, cpu),
     };
     round.pass(going.turns.len());
     outcome

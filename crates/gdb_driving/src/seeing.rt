@@ -27,18 +27,18 @@ pub enum Next {
 }
 
 // Whether a line is on the wire of a processor.
-fn has_line<D: Device>(machine: &Machine<D>, c: u8) -> bool {
-    match machine.wire(c) {
+fn has_line<D: Device>(machine: &Machine<D>, cpu: u8) -> bool {
+    match machine.wire(cpu) {
         Some(wire) => !wire.is_empty(),
         None => false,
     }
 }
 
 // Whether a task of a processor is ready. One that was just spawned there runs from the processor's next step on.
-fn has_ready<D: Device>(machine: &Machine<D>, c: u8) -> bool {
+fn has_ready<D: Device>(machine: &Machine<D>, cpu: u8) -> bool {
     for t in 0..machine.task_count() {
         if let Some(task) = machine.task(t) {
-            if task.cpu == c && matches!(task.state, TaskState::InReady | TaskState::OobReady) {
+            if task.cpu == cpu && matches!(task.state, TaskState::InReady | TaskState::OobReady) {
                 return true;
             }
         }
@@ -47,30 +47,30 @@ fn has_ready<D: Device>(machine: &Machine<D>, c: u8) -> bool {
 }
 
 // The task that a processor runs.
-fn current<D: Device>(machine: &Machine<D>, c: u8) -> Option<u8>
-    ensures { result ≡ current c machine.now.board.parts }
+fn current<D: Device>(machine: &Machine<D>, cpu: u8) -> Option<u8>
+    ensures { result ≡ current cpu machine.now.board.parts }
 {
-    match machine.cpu(c) {
+    match machine.cpu(cpu) {
         Some(processor) => processor.current,
         None => None,
     }
 }
 
 /// What the next step of a processor does.
-pub fn next_of<D: Device>(machine: &Machine<D>, c: u8) -> Next {
-    if has_line(machine, c) {
+pub fn next_of<D: Device>(machine: &Machine<D>, cpu: u8) -> Next {
+    if has_line(machine, cpu) {
         return Next::Prepares;
     }
-    match current(machine, c) {
+    match current(machine, cpu) {
         Some(task) => Next::Runs(task),
-        None if has_ready(machine, c) => Next::Prepares,
+        None if has_ready(machine, cpu) => Next::Prepares,
         None => Next::Idles,
     }
 }
 
 /// Whether the debugger has stopped a processor.
-pub fn is_stopped<D: Device>(machine: &Machine<D>, c: u8) -> bool {
-    match machine.cpu(c) {
+pub fn is_stopped<D: Device>(machine: &Machine<D>, cpu: u8) -> bool {
+    match machine.cpu(cpu) {
         Some(processor) => processor.stopped,
         None => false,
     }
@@ -190,8 +190,8 @@ pub fn watch_at<D: Device>(machine: &Machine<D>, points: &Points, task: u8) -> O
 }
 
 /// The task that a processor runs, or else another.
-pub fn current_or<D: Device>(machine: &Machine<D>, c: u8, other: u8) -> u8 {
-    current(machine, c).unwrap_or(other)
+pub fn current_or<D: Device>(machine: &Machine<D>, cpu: u8, other: u8) -> u8 {
+    current(machine, cpu).unwrap_or(other)
 }
 
 /// The halt of a task that its last instruction ended by a fault.
@@ -211,13 +211,13 @@ pub fn fault_of<D: Device>(machine: &Machine<D>, task: u8) -> Option<TargetHalt>
 }
 
 // Why a task is stopped that did an instruction of a processor, if it is.
-fn stop_of<D: Device>(machine: &Machine<D>, c: u8, task: u8) -> Option<TargetHalt>
+fn stop_of<D: Device>(machine: &Machine<D>, cpu: u8, task: u8) -> Option<TargetHalt>
     ensures { IfSome result (λ halt. IsAlone halt.why) }
 {
     if let Some(halt) = fault_of(machine, task) {
         return Some(halt);
     }
-    if is_stopped(machine, c) {
+    if is_stopped(machine, cpu) {
         Some(TargetHalt {
             task,
             why: Why::Ebreak,
@@ -229,15 +229,15 @@ fn stop_of<D: Device>(machine: &Machine<D>, c: u8, task: u8) -> Option<TargetHal
 
 /// Who is stopped, and why, behind a step of a processor that was answered so. A breakpoint of the machine's own is one of a
 /// script.
-pub fn halt_after<D: Device>(machine: &Machine<D>, c: u8, answer: Answer) -> Option<TargetHalt>
+pub fn halt_after<D: Device>(machine: &Machine<D>, cpu: u8, answer: Answer) -> Option<TargetHalt>
     ensures { IfSome result (λ halt. IsAlone halt.why) }
 {
     match answer {
         Answer::Hit => Some(TargetHalt {
-            task: current_or(machine, c, 0),
+            task: current_or(machine, cpu, 0),
             why: Why::SoftwareBreak,
         }),
-        Answer::Ran(task) => stop_of(machine, c, task),
+        Answer::Ran(task) => stop_of(machine, cpu, task),
         Answer::Idle | Answer::Stopped | Answer::Received(_) | Answer::Done => None,
     }
 }

@@ -13,14 +13,14 @@ use evm_dev::Device;
 const LINES_BEFORE: u32 = 64;
 
 // Who is stopped behind an instruction of a task: the task if it ended by a fault or met a watchpoint, else who runs now.
-fn stepped<D: Device>(machine: &Machine<D>, c: u8, task: u8, watched: Option<Why>) -> TargetHalt {
+fn stepped<D: Device>(machine: &Machine<D>, cpu: u8, task: u8, watched: Option<Why>) -> TargetHalt {
     if let Some(halt) = fault_of(machine, task) {
         return halt;
     }
     match watched {
         Some(why) => TargetHalt { task, why },
         None => TargetHalt {
-            task: current_or(machine, c, task),
+            task: current_or(machine, cpu, task),
             why: Why::Asked,
         },
     }
@@ -43,19 +43,19 @@ fn watched_by<D: Device>(machine: &Machine<D>, points: &Points, next: Next) -> O
 pub fn step<D: Device>(
     machine: &mut Machine<D>,
     points: &Points,
-    c: u8,
+    cpu: u8,
     looked: u8,
 ) -> Result<TargetHalt, Refusal>
     ensures kept { KeepsJournal machine.old machine.new }
 {
     stop_all(machine)?;
     'lines: for _ in 0..LINES_BEFORE {
-        let next = next_of(machine, c);
+        let next = next_of(machine, cpu);
         let watched = watched_by(machine, points, next);
-        event(machine, Event::StepI(c))?;
+        event(machine, Event::StepI(cpu))?;
         match next {
             Next::Prepares => {}
-            Next::Runs(task) => return Ok(stepped(machine, c, task, watched)),
+            Next::Runs(task) => return Ok(stepped(machine, cpu, task, watched)),
             Next::Idles => {
                 return Ok(TargetHalt {
                     task: looked,
@@ -65,7 +65,7 @@ pub fn step<D: Device>(
         }
     }
     Ok(TargetHalt {
-        task: current_or(machine, c, looked),
+        task: current_or(machine, cpu, looked),
         why: Why::Asked,
     })
 }
