@@ -240,8 +240,10 @@ fn run_some<D: Device>(
     ensures halts { IfOk result HaltsAlone }
 {
     'steps: for _ in 0..count {
-        if let Some(halt) = run_turn(machine, going, round)? {
-            return Ok(Some(halt));
+        match run_turn(machine, going, round) {
+            Ok(None) => {}
+            Ok(Some(halt)) => return Ok(Some(halt)),
+            Err(refusal) => return Err(refusal),
         }
     }
     Ok(None)
@@ -268,8 +270,10 @@ fn run<D: Device, I: Interrupts>(
             });
         }
         let count = left.min(PATIENCE);
-        if let Some(halt) = run_some(machine, going, round, count)? {
-            return Ok(halt);
+        match run_some(machine, going, round, count) {
+            Ok(Some(halt)) => return Ok(halt),
+            Ok(None) => {}
+            Err(refusal) => return Err(refusal),
         }
         left -= count;
     }
