@@ -20,7 +20,7 @@ not_less n = grind (arith, nat_tests)
 same_counted : (c l : ℕ) (n : Counts) → counted_marks c l n n ≡ []
 same_counted c l n = rw (not_less n.raised, not_less n.received, not_less n.oob.played, not_less n.in_band.played) refl
 
-same_line : (c l : ℕ) (o : Option Counts) → line_marks c l o o ≡ []
+pub same_line : (c l : ℕ) (o : Option Counts) → line_marks c l o o ≡ []
 unfolding line_marks
 same_line c l None = refl
 same_line c l (Some n) = same_counted c l n
@@ -30,11 +30,11 @@ unfolding below
 below_none f zero h = refl
 below_none f (suc n) h = rw (below_none f n h, h n) refl
 
-same_lines : (c : ℕ) (x : List Counts) → lines_marks c x x ≡ []
+pub same_lines : (c : ℕ) (x : List Counts) → lines_marks c x x ≡ []
 unfolding lines_marks
 same_lines c x = below_none (λ l. line_marks c l (slice_get x l) (slice_get x l)) _ (λ l. same_line c l (slice_get x l))
 
-none_after : (c : ℕ) (o : Option (List Counts)) → pipe_marks c o None ≡ []
+pub none_after : (c : ℕ) (o : Option (List Counts)) → pipe_marks c o None ≡ []
 none_after c None = refl
 none_after c (Some x) = refl
 

@@ -1,12 +1,14 @@
 -- The counts of the lines as they were last looked at, and which of them an event leaves.
-use Rattle.std.specs.Prelude.{◌≡◌, ◌≢◌, ℕ, List, Some, if◌then◌else◌, length, nat_lt, slice_get}
-use Rattle.evm_model.specs.Pipes.{Pipe}
+use Rattle.std.specs.Prelude.{◌≡◌, ◌≢◌, ℕ, List, Option, Some, None, Bool, true, false, ◌&&◌, is_none, if◌then◌else◌, length, nat_lt, option_map, slice_get}
+use Rattle.evm_lines.specs.Lines.{least_line}
+use Rattle.evm_model.specs.Pipes.{Pipe, raise}
 use Rattle.evm_model.specs.State.{Parts}
 use Rattle.evm_model.specs.declared.counts.Counts.{Counts}
 use Rattle.evm_model.specs.declared.event.Event.{Event as EventOf}
 use Rattle.evm_model.specs.declared.event.Event.TheVariants.{Step, Raise, Bell}
 use Rattle.run_marks.specs.declared.tally.Reach.{Reach}
-use Rattle.run_marks.specs.declared.tally.Reach.TheVariants.{One, Raises, All}
+use Rattle.run_marks.specs.declared.tally.Reach.TheVariants.{ByLine, ByStep, All}
+use Rattle.run_marks.specs.declared.tally.Stepped.{Stepped}
 
 -- row c has the counts of the lines of processor c
 abbrev pub IsTallyOf : List (List Counts) → Parts → Type 0
@@ -21,26 +23,47 @@ abbrev pub SameRaised : List Counts → List Counts → Type 0
 SameRaised before after = (l : ℕ) (n m : Counts) → slice_get before l ≡ Some n → slice_get after l ≡ Some m → n.raised ≡ m.raised
 
 -- ---- how far an event reaches
-abbrev pub reach_of : EventOf ℕ → Reach
-reach_of (Step c) = Raises c
-reach_of (Raise c line) = One c
-reach_of (Bell c line) = One c
-reach_of _ = All
+abbrev pub reach_of : EventOf ℕ → Bool → Reach
+reach_of (Step c) calm = ByStep (record { cpu = c; calm = calm })
+reach_of (Raise c line) calm = ByLine c line
+reach_of (Bell c line) calm = ByLine c line
+reach_of _ calm = All
 
--- the counts of processor d stand
-abbrev pub Stand : ℕ → Parts → Parts → Type 0
-Stand d was now = (p q : Pipe) → slice_get was.pipes d ≡ Some p → slice_get now.pipes d ≡ Some q → q.counts ≡ p.counts
+-- no line is on a wire
+abbrev pub is_clear : Pipe → Bool
+is_clear pipe = is_none (least_line pipe.wire)
 
--- .. unless one of its lines was raised
+-- no line waits: none is on the wire, none is in a log
+abbrev pub is_calm : Option Pipe → Bool
+is_calm None = false
+is_calm (Some pipe) = is_clear pipe && (is_none (least_line pipe.oob.lines) && is_none (least_line pipe.in_band.lines))
+
+-- the counts of processor d stand unless one of its lines was raised
 abbrev pub StandUnlessRaised : ℕ → Parts → Parts → Type 0
 StandUnlessRaised d was now = (p q : Pipe) → slice_get was.pipes d ≡ Some p → slice_get now.pipes d ≡ Some q → SameRaised p.counts q.counts → q.counts ≡ p.counts
 
-abbrev pub LeavesCounts : Reach → Parts → Parts → Type 0
-LeavesCounts (One c) was now = (d : ℕ) → d ≢ c → Stand d was now
-LeavesCounts (Raises c) was now = (d : ℕ) → d ≢ c → StandUnlessRaised d was now
-LeavesCounts All was now = Unit {0}
+-- .. unless a line is on its wire afterwards
+abbrev pub StandUnlessOnWire : ℕ → Parts → Parts → Type 0
+StandUnlessOnWire d was now = (p q : Pipe) → slice_get was.pipes d ≡ Some p → slice_get now.pipes d ≡ Some q → is_clear q ≡ true → q.counts ≡ p.counts
+
+-- what a Step leaves: where no line waited, all counts of its processor but those of a line that was raised; and so of each other processor, on whose wire that line is
+pub record StepLeaves (step : Stepped) (was now : Parts) : Type 0 where
+  pub own : step.calm ≡ true → StandUnlessRaised step.cpu was now
+  pub others : (d : ℕ) → d ≢ step.cpu → StandUnlessRaised d was now
+  pub wires : (d : ℕ) → d ≢ step.cpu → StandUnlessOnWire d was now
+
+-- line l of processor c was raised, and nothing else changed
+pub record OnlyRaises (c l : ℕ) (was now : Parts) : Type 0 where
+  pub rest : now ≡ record was { pipes = now.pipes }
+  pub here : slice_get now.pipes c ≡ option_map (raise l) (slice_get was.pipes c)
+  pub others : (d : ℕ) → d ≢ c → slice_get now.pipes d ≡ slice_get was.pipes d
+
+abbrev pub Leaves : Reach → Parts → Parts → Type 0
+Leaves (ByLine c l) was now = OnlyRaises c l was now
+Leaves (ByStep step) was now = StepLeaves step was now
+Leaves All was now = Unit {0}
 
 -- an event that reaches so far led from one to the other
 pub record IsWithinReach (reach : Reach) (was now : Parts) : Type 0 where
   pub pipes : length now.pipes ≡ length was.pipes
-  pub leaves : LeavesCounts reach was now
+  pub leaves : Leaves reach was now

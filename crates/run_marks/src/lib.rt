@@ -8,8 +8,9 @@ mod observation;
 mod tally;
 mod task_marks;
 
+pub use line_marks::push_raise;
 pub use mark::Mark;
 pub use marking::marks;
 pub use observation::{Lane, Observation, Running};
-pub use tally::{Reach, Tally, reach_of};
+pub use tally::{Reach, Stepped, Tally, is_calm, reach_of};
 pub use task_marks::equal_waits;

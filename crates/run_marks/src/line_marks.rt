@@ -1,16 +1,17 @@
 //! The marks of the lines of one processor.
 
-ghost use Rattle.std.specs.Prelude.{◌≡◌, ◌+◌, ◌++◌, ◌-◌, ◌<◌, ℕ, [], OnOk, Option, true, false, nat_lt, option_copied, slice_get};
+ghost use Rattle.std.specs.Prelude.{◌≡◌, ◌+◌, ◌++◌, ◌-◌, ◌<◌, ℕ, [], OnOk, Option, true, false, length, nat_lt, option_copied, slice_get};
 ghost use Rattle.evm_journal.specs.evm_core.Views.{line_counts_at};
 ghost use Rattle.evm_model.specs.Pipes.{Pipe};
 ghost use Rattle.evm_model.specs.State.{Parts};
 ghost use Rattle.evm_model.specs.declared.limits.TheConstants.{PROCESSOR_LIMIT as PROCESSORS};
-ghost use Rattle.run_marks.specs.Marks.{counted_marks, line_marks, lines_marks, pipe_marks, when};
-ghost use Rattle.run_marks.specs.Tallies.{IsTallyUpTo, IsWithinReach};
+ghost use Rattle.run_marks.specs.Marks.{counted_marks, line_marks, lines_marks, marks_of, pipe_marks, when};
+ghost use Rattle.run_marks.specs.declared.observation.Observation.{Observation};
+ghost use Rattle.run_marks.specs.Tallies.{IsTallyOf, IsTallyUpTo, IsWithinReach, OnlyRaises, StandUnlessOnWire, StandUnlessRaised, StepLeaves};
 
 use crate::mark::Mark;
 use crate::marking::push_when;
-use crate::tally::{Reach, Tally, same_raised};
+use crate::tally::{Reach, Stepped, Tally, is_clear, same_raised};
 use evm_dev::Device;
 use evm_journal::Machine;
 use evm_lines::LINES;
@@ -171,13 +172,52 @@ fn push_lines(
     Ok(())
 }
 
+// Whether a Step of another processor leaves the counts of this one, which were these.
+fn is_left_beside<D: Device>(
+    cpu: u8,
+    machine: &Machine<D>,
+    before: &[Counts],
+    after: &[Counts],
+) -> bool
+    ensures { (was : Parts) (p : Pipe) (q : Pipe) → result ≡ true → StandUnlessOnWire cpu was machine.now.board.parts → StandUnlessRaised cpu was machine.now.board.parts → slice_get was.pipes cpu ≡ Option.Some p → slice_get machine.now.board.parts.pipes cpu ≡ Option.Some q → p.counts ≡ before.now → q.counts ≡ after.now → after.now ≡ before.now }
+{
+    if is_clear(machine, cpu) {
+        true
+    } else {
+        same_raised(before, after)
+    }
+}
+
+// Whether a Step leaves the counts of a processor, which were these.
+fn is_left_by<D: Device>(
+    step: Stepped,
+    cpu: u8,
+    machine: &Machine<D>,
+    before: &[Counts],
+    after: &[Counts],
+) -> bool
+    ensures { (was : Parts) (p : Pipe) (q : Pipe) → result ≡ true → StepLeaves step was machine.now.board.parts → slice_get was.pipes cpu ≡ Option.Some p → slice_get machine.now.board.parts.pipes cpu ≡ Option.Some q → p.counts ≡ before.now → q.counts ≡ after.now → after.now ≡ before.now }
+{
+    if cpu == step.cpu {
+        step.calm && same_raised(before, after)
+    } else {
+        is_left_beside(cpu, machine, before, after)
+    }
+}
+
 // Whether an event that reaches so far leaves the counts of a processor, which were these.
-fn is_left(reach: Reach, cpu: u8, before: &[Counts], after: &[Counts]) -> bool
-    ensures { (was : Parts) (now : Parts) (p : Pipe) (q : Pipe) → result ≡ true → IsWithinReach reach was now → slice_get was.pipes cpu ≡ Option.Some p → slice_get now.pipes cpu ≡ Option.Some q → p.counts ≡ before.now → q.counts ≡ after.now → after.now ≡ before.now }
+fn is_left<D: Device>(
+    reach: Reach,
+    cpu: u8,
+    machine: &Machine<D>,
+    before: &[Counts],
+    after: &[Counts],
+) -> bool
+    ensures { (was : Parts) (p : Pipe) (q : Pipe) → result ≡ true → IsWithinReach reach was machine.now.board.parts → slice_get was.pipes cpu ≡ Option.Some p → slice_get machine.now.board.parts.pipes cpu ≡ Option.Some q → p.counts ≡ before.now → q.counts ≡ after.now → after.now ≡ before.now }
 {
     match reach {
-        Reach::One(acting) => cpu != acting,
-        Reach::Raises(acting) => cpu != acting && same_raised(before, after),
+        Reach::ByLine(acting, _) => cpu != acting,
+        Reach::ByStep(step) => is_left_by(step, cpu, machine, before, after),
         Reach::All => false,
     }
 }
@@ -197,10 +237,30 @@ pub(crate) fn push_pipe<D: Device>(
     let Some(counts) = machine.line_counts(cpu) else {
         return Ok(());
     };
-    if is_left(reach, cpu, tally.row(cpu), counts) {
+    if is_left(reach, cpu, machine, tally.row(cpu), counts) {
         return Ok(());
     }
     push_lines(marks, cpu, tally.row(cpu), counts)?;
+    tally.keep(cpu, counts);
+    Ok(())
+}
+
+/// Appends the marks of a line that an event raised, which changed nothing else, and keeps the counts of its processor.
+pub fn push_raise<D: Device>(
+    marks: &mut Vec<Mark>,
+    tally: &mut Tally,
+    machine: &Machine<D>,
+    cpu: u8,
+    line: u8,
+) -> Result<(), Refused>
+    requires { cpu < PROCESSORS }
+    ensures { (was : Parts) (seen : Observation) → seen.cpu_count ≡ length machine.now.board.parts.processors → IsTallyOf tally.old.rows was → OnlyRaises cpu line was machine.now.board.parts → OnOk result ((marks.new.items ≡ marks.old.items ++ marks_of seen seen was machine.now.board.parts) × IsTallyOf tally.new.rows machine.now.board.parts) }
+{
+    machine.rules();
+    let Some(counts) = machine.line_counts(cpu) else {
+        return Ok(());
+    };
+    push_line_at(marks, cpu, line, tally.row(cpu), counts)?;
     tally.keep(cpu, counts);
     Ok(())
 }

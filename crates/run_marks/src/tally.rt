@@ -4,31 +4,40 @@ ghost use Rattle.std.specs.Prelude.{◌≡◌, ◌≢◌, ◌<◌, ℕ, Option, 
 ghost use Rattle.evm_lines.specs.declared.TheConstants.{LINES as LINE_LIMIT};
 ghost use Rattle.evm_model.specs.Pipes.{Pipe};
 ghost use Rattle.evm_model.specs.declared.limits.TheConstants.{PROCESSOR_LIMIT as PROCESSORS};
-ghost use Rattle.run_marks.specs.Tallies.{reach_of, IsTallyOf, SameRaised};
+ghost use Rattle.evm_journal.specs.evm_core.Views.{stages_in};
+ghost use Rattle.run_marks.specs.Tallies.{is_calm, is_clear, reach_of, IsTallyOf, SameRaised};
 
 use evm_dev::Device;
-use evm_journal::Machine;
+use evm_journal::{Machine, Stages};
 use evm_lines::LINE_COUNT;
 use evm_model::{Counts, Event, PROCESSOR_LIMIT, Passage};
+
+/// A Step of a processor.
+#[derive(Clone, Copy)]
+pub struct Stepped {
+    pub cpu: u8,
+    /// No line waited for the processor before, on its wire or in a log.
+    pub calm: bool,
+}
 
 /// How far an event reaches.
 #[derive(Clone, Copy)]
 pub enum Reach {
-    /// It changes the counts of no other processor than this.
-    One(u8),
-    /// It only raises lines of other processors than this.
-    Raises(u8),
+    /// It only raises this line of this processor.
+    ByLine(u8, u8),
+    /// It is a Step, which only raises lines of other processors.
+    ByStep(Stepped),
     /// It may change the counts of every processor.
     All,
 }
 
-/// How far an event reaches.
-pub fn reach_of(event: &Event<u8>) -> Reach
-    ensures { result ≡ reach_of event.now }
+/// How far an event reaches; `calm` says of a Step whether no line waited for its processor.
+pub fn reach_of(event: &Event<u8>, calm: bool) -> Reach
+    ensures { result ≡ reach_of event.now calm }
 {
     match event {
-        Event::Step(cpu) => Reach::Raises(*cpu),
-        Event::Raise(cpu, _) | Event::Bell(cpu, _) => Reach::One(*cpu),
+        Event::Step(cpu) => Reach::ByStep(Stepped { cpu: *cpu, calm }),
+        Event::Raise(cpu, line) | Event::Bell(cpu, line) => Reach::ByLine(*cpu, *line),
         Event::Tick
         | Event::Stop(_)
         | Event::Go(_)
@@ -107,6 +116,35 @@ impl Tally {
         for c in 0..machine.cpu_count() {
             self.see_one(machine, c);
         }
+    }
+}
+
+/// Whether no line is on a processor's wire.
+pub(crate) fn is_clear<D: Device>(machine: &Machine<D>, cpu: u8) -> bool
+    ensures { (pipe : Pipe) → result ≡ true → slice_get machine.now.board.parts.pipes cpu ≡ Option.Some pipe → is_clear pipe ≡ true }
+{
+    match machine.wire(cpu) {
+        None => false,
+        Some(wire) => wire.first().is_none(),
+    }
+}
+
+// Whether no line is on the wire or in a log.
+fn none_waits(stages: &Stages) -> bool
+    ensures { (pipe : Pipe) → stages_in (Option.Some pipe) ≡ Option.Some stages.now → result ≡ is_calm (Option.Some pipe) }
+{
+    stages.wire.first().is_none()
+        && stages.oob.lines.first().is_none()
+        && stages.in_band.lines.first().is_none()
+}
+
+/// Whether no line waits for a processor: none is on its wire or in a log.
+pub fn is_calm<D: Device>(machine: &Machine<D>, cpu: u8) -> bool
+    ensures { result ≡ is_calm (slice_get machine.now.board.parts.pipes cpu) }
+{
+    match machine.stages(cpu) {
+        None => false,
+        Some(stages) => none_waits(&stages),
     }
 }
 

@@ -1,3 +1,4 @@
+pub mod Calm
 pub mod Found
 pub mod Observing
 pub mod Quietly

@@ -1,18 +1,20 @@
 //! What is seen of a machine before and after an event.
 
-ghost use Rattle.std.specs.Prelude.{◌≡◌, [], true, OnOk, IfOk};
+ghost use Rattle.std.specs.Prelude.{◌≡◌, ◌<◌, [], true, OnOk, IfOk};
 ghost use Rattle.evm_model.specs.Good.{GoodState};
 ghost use Rattle.evm_model.specs.State.{Parts, State};
 ghost use Rattle.run_marks.specs.Marks.{AreMarks};
-ghost use Rattle.run_walk.specs.Observers.{IsObserverOf};
-ghost use Rattle.run_marks.specs.Tallies.{IsWithinReach};
+ghost use Rattle.evm_model.specs.declared.limits.TheConstants.{PROCESSOR_LIMIT as PROCESSORS};
+ghost use Rattle.run_walk.specs.Observers.{IsCalmFor, IsObserverOf};
+ghost use Rattle.run_marks.specs.Tallies.{IsWithinReach, OnlyRaises};
 ghost use Rattle.run_walk.specs.Walks.{IsLedBy, IsMarkedAs};
 
 use crate::item::Item;
 use evm_dev::Device;
 use evm_journal::Machine;
+use evm_model::PROCESSOR_LIMIT;
 use evm_room::Refused;
-use run_marks::{Mark, Observation, Reach, Tally, marks, reach_of};
+use run_marks::{Mark, Observation, Reach, Tally, marks, push_raise, reach_of};
 use std::alloc::Global;
 use std::mem;
 
@@ -82,20 +84,43 @@ impl Observer {
         Ok(())
     }
 
-    /// Appends the marks of an item, which led the machine here from the one that was seen before.
+    // Looks at the machine after a line of a processor was raised and nothing else changed, and appends the marks.
+    fn follow_raise<D: Device>(
+        &mut self,
+        found: &mut Vec<Mark>,
+        machine: &Machine<D>,
+        cpu: u8,
+        line: u8,
+    ) -> Result<(), Refused>
+        requires empty { found.old.items ≡ [] }
+        requires cpu { cpu < PROCESSORS }
+        ensures ok { (was : Parts) → IsObserverOf self.old was → OnlyRaises cpu line was machine.now.board.parts → OnOk result (IsObserverOf self.new machine.now.board.parts × AreMarks was machine.now.board.parts found.new.items) }
+        ensures fresh { self.new.fresh ≡ self.old.fresh }
+    {
+        push_raise(found, &mut self.tally, machine, cpu, line)
+    }
+
+    /// Appends the marks of an item, which led the machine here from the one that was seen before. `calm` says of a Step that no line
+    /// waited for its processor.
     pub(crate) fn tell<D: Device>(
         &mut self,
         found: &mut Vec<Mark>,
         machine: &Machine<D>,
         item: &Item,
+        calm: bool,
     ) -> Result<(), Refused>
         requires { found.old.items ≡ [] }
-        ensures ok { (was : State) → GoodState was → IsObserverOf self.old was.board.parts → IsLedBy item.now was machine.now → OnOk result (IsObserverOf self.new machine.now.board.parts × IsMarkedAs item.now.quiet was machine.now found.new.items) }
+        ensures ok { (was : State) → GoodState was → IsObserverOf self.old was.board.parts → IsCalmFor item.now.event calm was.board.parts → IsLedBy item.now was machine.now → OnOk result (IsObserverOf self.new machine.now.board.parts × IsMarkedAs item.now.quiet was machine.now found.new.items) }
         ensures fresh { self.new.fresh ≡ self.old.fresh }
     {
         if item.quiet {
             return Ok(());
         }
-        self.follow(found, machine, reach_of(&item.event))
+        match reach_of(&item.event, calm) {
+            Reach::ByLine(cpu, line) if usize::from(cpu) < PROCESSOR_LIMIT => {
+                self.follow_raise(found, machine, cpu, line)
+            }
+            reach => self.follow(found, machine, reach),
+        }
     }
 }

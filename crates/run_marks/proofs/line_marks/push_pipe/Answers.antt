@@ -13,7 +13,7 @@ pub returns-then-is_left : goal.returns-then-is_left
 returns-then-is_left g c =
     λ was is far.
     let a = left c.args.cpu c.args.tally.now.rows c.row.result.now c.in-Some.counts.now was c.args.machine.now.board.parts c.args.reach is far c.row.ensures (sym c.in-Some.ensures)
-    (λ p q before there x y. c.is_left.ensures was c.args.machine.now.board.parts p q c.if-is_left.true far before there x y) in
+    (λ p q before there x y. c.is_left.ensures was p q c.if-is_left.true far before there x y) in
     (sym (ap (λ l. c.args.marks.now.items ++ l) a.0 ∙ append-nil c.args.marks.now.items), a.1)
 
 pub returns : goal.returns
