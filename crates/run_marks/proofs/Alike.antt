@@ -151,8 +151,8 @@ one_below {X = X} f (suc n) i less h = elim (cases_eq i n) [
     nil : (x : List X) → x ++ [] ≡ x
     nil x = append-nil x
 
-nothing_more : (x y : List Mark) → y ≡ [] → x ++ y ≡ x
-nothing_more x y none = ap (λ l. x ++ l) none ∙ append-nil x
+nothing_more : (x : List Mark) → x ++ [] ++ [] ++ [] ≡ x
+nothing_more x = ap (λ l. l ++ [] ++ []) (append-nil x) ∙ ap (λ l. l ++ []) (append-nil x) ∙ append-nil x
 
 -- ---- a line that is raised
 -- the marks of a machine on which nothing but pipes changed are those of one processor, where the others' stand
@@ -164,7 +164,7 @@ raised seen c was now less others =
     let one : below (processor_marks seen seen was now) seen.cpu_count ≡ pipe_marks c (line_counts_at c was) (line_counts_at c now) =
     one_below (processor_marks seen seen was now) seen.cpu_count c less others_stay ∙ rw (lane_stays c (slice_get seen.lanes.items c)) refl in
     rw (ticks_stay seen.ticks, one, none_below (one_task_marks seen seen) seen.task_count (λ t less. one_stays seen t), none_below (owner_marks seen seen) seen.mutex_count (λ m less. owner_stays seen m), notices_stay seen.notices seen.last_notice)
-    (nothing_more (pipe_marks c (line_counts_at c was) (line_counts_at c now)) _ refl)
+    (nothing_more (pipe_marks c (line_counts_at c was) (line_counts_at c now)))
 
 -- no mark where the pipe isn't there
 pub unraised : (seen : Observation) (c : ℕ) (was now : Parts) → line_counts_at c now ≡ None → ((d : ℕ) → d ≢ c → slice_get now.pipes d ≡ slice_get was.pipes d) → marks_of seen seen was now ≡ []
