@@ -6,7 +6,7 @@ use evm_diagnostics::Devices;
 use evm_journal::Machine;
 use evm_model::Wait;
 use evm_ram::Image;
-use evm_room::{Refused, grow, push_text};
+use evm_room::{NoMemory, Refused, grow, push_text};
 use run_marks::Mark;
 use std::alloc::Global;
 use text_symbols::{Kind, Names, Symbols};
@@ -269,12 +269,12 @@ impl RunNames {
         devices: Devices<D>,
         journal: &str,
         names: &Names,
-    ) -> Result<RunNames, Refused> {
+    ) -> Result<RunNames, NoMemory> {
         if names.symbols.symbols().is_empty() {
             return Ok(RunNames::new(alloc));
         }
         match Walk::start(alloc, image, devices, journal) {
-            Ok(walk) => RunNames::of_run(alloc, walk, names),
+            Ok(walk) => RunNames::of_run(alloc, walk, names).map_err(|_| NoMemory),
             Err(_) => Ok(RunNames::new(alloc)),
         }
     }
