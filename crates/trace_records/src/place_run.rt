@@ -9,7 +9,7 @@ use crate::label::Label;
 use crate::place::CodePlace;
 use crate::run::{NextChanges, RunStop, Teller};
 use crate::trace::{Trace, TraceStop};
-use crate::writing::finish;
+use crate::writing::{Tail, finish};
 use evm_streams::Sink;
 use std::alloc::Global;
 use text_symbols::Symbols;
@@ -21,6 +21,14 @@ pub trait Placer {
 
     /// The names on the tracks of tasks so far.
     fn labels(&self) -> &[Label];
+}
+
+/// What a run is traced with: memory, the most calls of its teller, and the symbols that name its places.
+#[derive(Clone, Copy)]
+struct Means<'a> {
+    alloc: Global,
+    calls: u64,
+    symbols: &'a Symbols,
 }
 
 // Tells what the teller finds, in at most this number of calls. A run that has not ended then is a fault.
@@ -51,29 +59,27 @@ fn tell_run<T: Teller, W: Sink>(
 
 // Traces a run on a trace that was begun.
 fn trace_to_end<T: Teller + Placer, W: Sink>(
-    alloc: Global,
+    means: &Means<'_>,
     teller: &mut T,
-    calls: u64,
-    symbols: &Symbols,
     trace: &mut Trace,
     sink: &mut W,
 ) -> Result<(), RunStop>
-    ensures placed { (start : W) → Tells W.takes start [] sink.old trace.old → OnOk result (IsPlacedSomewhere W.takes start symbols.now.symbols sink.new) }
-    ensures run { (start : W) → Tells W.takes start [] sink.old trace.old → OnOk result (IsRunPlaced T.tells T.ended teller.old W.takes start symbols.now.symbols sink.new) }
+    ensures placed { (start : W) → Tells W.takes start [] sink.old trace.old → OnOk result (IsPlacedSomewhere W.takes start means.now.symbols.now.symbols sink.new) }
+    ensures run { (start : W) → Tells W.takes start [] sink.old trace.old → OnOk result (IsRunPlaced T.tells T.ended teller.old W.takes start means.now.symbols.now.symbols sink.new) }
 {
-    match tell_run(alloc, teller, calls, trace, sink) {
+    match tell_run(means.alloc, teller, means.calls, trace, sink) {
         Err(stop) => Err(stop),
-        Ok(()) => match finish(
-            alloc,
-            trace,
-            symbols,
-            teller.labels(),
-            teller.places(),
-            sink,
-        ) {
-            Ok(()) => Ok(()),
-            Err(stop) => Err(RunStop::Trace(stop)),
-        },
+        Ok(()) => {
+            let tail = Tail {
+                symbols: means.symbols,
+                labels: teller.labels(),
+                places: teller.places(),
+            };
+            match finish(means.alloc, trace, &tail, sink) {
+                Ok(()) => Ok(()),
+                Err(stop) => Err(RunStop::Trace(stop)),
+            }
+        }
     }
 }
 
@@ -92,8 +98,13 @@ pub fn trace_places<T: Teller + Placer, W: Sink>(
     ensures placed { OnOk result (IsPlacedSomewhere W.takes sink.old symbols.now.symbols sink.new) }
     ensures run { OnOk result (IsRunPlaced T.tells T.ended teller.old W.takes sink.old symbols.now.symbols sink.new) }
 {
+    let means = Means {
+        alloc,
+        calls,
+        symbols,
+    };
     match Trace::on(alloc, sink) {
-        Ok(mut trace) => trace_to_end(alloc, teller, calls, symbols, &mut trace, sink),
+        Ok(mut trace) => trace_to_end(&means, teller, &mut trace, sink),
         Err(_) => Err(RunStop::Trace(TraceStop::NoMemory)),
     }
 }

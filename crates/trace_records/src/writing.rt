@@ -20,6 +20,14 @@ use evm_streams::{Sink, WriteFault, write_all};
 use std::alloc::Global;
 use text_symbols::Symbols;
 
+/// What stands behind the records of a trace: labels, and places that the symbols name.
+#[derive(Clone, Copy)]
+pub(crate) struct Tail<'a> {
+    pub(crate) symbols: &'a Symbols,
+    pub(crate) labels: &'a [Label],
+    pub(crate) places: &'a [CodePlace],
+}
+
 /// How many bytes are kept before they are written.
 const KEPT: usize = 65_536;
 
@@ -128,18 +136,17 @@ fn write_end<W: Sink>(text: &mut String, sink: &mut W) -> Result<(), TraceStop>
     }
 }
 
+// Writes the labels and the places, and ends the file.
 fn write_to_end<W: Sink>(
     alloc: Global,
     text: &mut String,
-    symbols: &Symbols,
-    labels: &[Label],
-    places: &[CodePlace],
+    tail: &Tail<'_>,
     sink: &mut W,
 ) -> Result<(), TraceStop>
-    ensures { (start : W) (whole : List ℕ) → IsPending W.takes start whole sink.old text.old → OnOk result (Took W.takes start (((whole ++ label_lines labels.now) ++ place_lines symbols.now.symbols places.now) ++ codes "\n]}") sink.new) }
+    ensures { (start : W) (whole : List ℕ) → IsPending W.takes start whole sink.old text.old → OnOk result (Took W.takes start (((whole ++ label_lines tail.now.labels.now) ++ place_lines tail.now.symbols.now.symbols tail.now.places.now) ++ codes "\n]}") sink.new) }
 {
-    match write_labels(alloc, text, labels, sink) {
-        Ok(()) => write_rest_of(alloc, text, symbols, places, sink),
+    match write_labels(alloc, text, tail.labels, sink) {
+        Ok(()) => write_rest_of(alloc, text, tail.symbols, tail.places, sink),
         Err(stop) => Err(stop),
     }
 }
@@ -208,15 +215,13 @@ fn fit_places(places: &[CodePlace])
 pub(crate) fn finish<W: Sink>(
     alloc: Global,
     trace: &mut Trace,
-    symbols: &Symbols,
-    labels: &[Label],
-    places: &[CodePlace],
+    tail: &Tail<'_>,
     sink: &mut W,
 ) -> Result<(), TraceStop>
-    ensures placed { (start : W) → IsTelling W.takes start sink.old trace.old → OnOk result (IsPlaced W.takes start labels.now symbols.now.symbols places.now sink.new) }
-    ensures took { (start : W) (told : List Change) → Tells W.takes start told sink.old trace.old → OnOk result (Took W.takes start (placed_text (trace_of told) labels.now symbols.now.symbols places.now) sink.new) }
+    ensures placed { (start : W) → IsTelling W.takes start sink.old trace.old → OnOk result (IsPlaced W.takes start tail.now.labels.now tail.now.symbols.now.symbols tail.now.places.now sink.new) }
+    ensures took { (start : W) (told : List Change) → Tells W.takes start told sink.old trace.old → OnOk result (Took W.takes start (placed_text (trace_of told) tail.now.labels.now tail.now.symbols.now.symbols tail.now.places.now) sink.new) }
 {
-    fit_labels(labels);
-    fit_places(places);
-    write_to_end(alloc, &mut trace.text, symbols, labels, places, sink)
+    fit_labels(tail.labels);
+    fit_places(tail.places);
+    write_to_end(alloc, &mut trace.text, tail, sink)
 }
