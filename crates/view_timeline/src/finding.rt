@@ -18,31 +18,34 @@ pub enum Landmark<'a> {
     Words(&'a str),
 }
 
-// Whether something that was done has these words.
-fn says(alloc: Global, shown: &[Shown], wanted: &str, naming: Naming<'_>) -> Result<bool, Refused> {
-    let mut words = String::new(alloc);
-    for one in shown {
-        words.clear();
-        push_deed(&mut words, one, naming)?;
-        if words.as_str().contains(wanted) {
-            return Ok(true);
-        }
-    }
-    Ok(false)
+/// A search: what is found, and the names in its words.
+#[derive(Clone, Copy)]
+struct Search<'a> {
+    alloc: Global,
+    wanted: Landmark<'a>,
+    naming: Naming<'a>,
 }
 
-// Whether an item is it, behind which there were so many ticks.
-fn is_wanted(
-    alloc: Global,
-    item: &Item,
-    ticks: u64,
-    shown: &[Shown],
-    wanted: Landmark<'_>,
-    naming: Naming<'_>,
-) -> Result<bool, Refused> {
-    match wanted {
-        Landmark::Tick(tick) => Ok(tick == ticks && matches!(item.event, Event::Tick)),
-        Landmark::Words(words) => says(alloc, shown, words, naming),
+impl Search<'_> {
+    // Whether something that was done has these words.
+    fn says(&self, shown: &[Shown], wanted: &str) -> Result<bool, Refused> {
+        let mut words = String::new(self.alloc);
+        for one in shown {
+            words.clear();
+            push_deed(&mut words, one, self.naming)?;
+            if words.as_str().contains(wanted) {
+                return Ok(true);
+            }
+        }
+        Ok(false)
+    }
+
+    // Whether an item is it, behind which there were so many ticks.
+    fn finds(&self, item: &Item, ticks: u64, shown: &[Shown]) -> Result<bool, Refused> {
+        match self.wanted {
+            Landmark::Tick(tick) => Ok(tick == ticks && matches!(item.event, Event::Tick)),
+            Landmark::Words(words) => self.says(shown, words),
+        }
     }
 }
 
@@ -57,6 +60,11 @@ pub fn find<D: Device>(
     wanted: Landmark<'_>,
     naming: Naming<'_>,
 ) -> Result<Option<u64>, WalkStop> {
+    let search = Search {
+        alloc,
+        wanted,
+        naming,
+    };
     let mut found = Vec::new(alloc);
     let mut shown = Vec::new(alloc);
     let mut callers = Callers::new();
@@ -67,7 +75,7 @@ pub fn find<D: Device>(
         };
         show_all(&mut shown, found.as_slice(), &item, walk, &callers)?;
         let ticks = walk.machine().ticks();
-        if is_wanted(alloc, &item, ticks, shown.as_slice(), wanted, naming)? {
+        if search.finds(&item, ticks, shown.as_slice())? {
             return Ok(Some(item.first));
         }
     }
