@@ -10,7 +10,7 @@ use evm_exec::Hart;
 use evm_model::{Class, Stage, TIMER_LIMIT, TaskState, Timer};
 use evm_room::Refused;
 use run_marks::{Mark, Observation};
-use run_walk::{Answered, Caller, Callers, Item, Machine, MadeCall, call_at, instruction_at};
+use run_walk::{Answered, Caller, Callers, Item, Machine, MadeCall, Walk, call_at, instruction_at};
 
 /// The devices: where their registers begin, and how many bytes each device has.
 const DEVICES: u64 = 0x1000_0000;
@@ -298,11 +298,10 @@ fn put_step<D: Device>(
     }
 }
 
-/// Appends the details of an item that led to this machine.
+/// Appends the details of the item that led a walk here.
 pub(crate) fn put_details<D: Device>(
     row: &mut Vec<u64>,
-    machine: &Machine<D>,
-    observation: &Observation,
+    walk: &Walk<D>,
     known: &mut Known,
     item: &Item,
     marks: &[Mark],
@@ -310,7 +309,8 @@ pub(crate) fn put_details<D: Device>(
     if item.quiet {
         return Ok(());
     }
-    put_step(row, machine, observation, known, item)?;
+    let machine = walk.machine();
+    put_step(row, machine, walk.observation(), known, item)?;
     put_created(row, machine, marks)?;
     put_timers(row, machine, known)
 }

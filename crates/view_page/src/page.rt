@@ -23,6 +23,8 @@ use std::alloc::Global;
 #[derive(Clone, Copy)]
 pub struct ToldRun<'a> {
     pub about: About<'a>,
+    /// The image of the program.
+    pub image: &'a Image,
     /// The text of the journal.
     pub journal: &'a str,
 }
@@ -48,7 +50,7 @@ fn push_walk<D: Device, M: Meter>(
     Ok(())
 }
 
-/// Appends the run of a journal, which is replayed on a machine with the devices and the image.
+/// Appends the run of a journal, which is replayed on a machine with the devices and its image.
 ///
 /// # Errors
 ///
@@ -56,15 +58,14 @@ fn push_walk<D: Device, M: Meter>(
 pub fn push_journal<D: Device, M: Meter>(
     alloc: Global,
     out: &mut String,
-    image: &Image,
     devices: Devices<D>,
     run: &ToldRun<'_>,
     meter: &mut M,
 ) -> Result<(), WalkStop>
-    ensures { OnOk result (AddsRun devices image.now run.now.journal.now (string_bytes out.old) (string_bytes out.new)) }
+    ensures { OnOk result (AddsRun devices run.now.image.now run.now.journal.now (string_bytes out.old) (string_bytes out.new)) }
 {
     let header = about_text(alloc, &run.about, run.journal)?;
-    let mut walk = Walk::start(alloc, image, devices, run.journal)?;
+    let mut walk = Walk::start(alloc, run.image, devices, run.journal)?;
     push_walk(alloc, out, header.as_bytes(), &mut walk, meter)
 }
 

@@ -87,25 +87,6 @@ fn push_entry(
     push_row(out, row.as_slice())
 }
 
-// The details of the item that led a walk here.
-fn details_of<D: Device>(
-    details: &mut Vec<u64>,
-    walk: &Walk<D>,
-    known: &mut Known,
-    item: &Item,
-    marks: &[Mark],
-) -> Result<(), Refused> {
-    details.clear();
-    put_details(
-        details,
-        walk.machine(),
-        walk.observation(),
-        known,
-        item,
-        marks,
-    )
-}
-
 // Appends the row of the start.
 fn push_start<D: Device>(
     out: &mut String,
@@ -137,7 +118,8 @@ fn push_entries<D: Device, M: Meter>(
         let Some(item) = walk.next(&mut found)? else {
             break;
         };
-        details_of(&mut details, walk, &mut known, &item, found.as_slice())?;
+        details.clear();
+        put_details(&mut details, walk, &mut known, &item, found.as_slice())?;
         push_entry(out, &mut row, &item, found.as_slice(), details.as_slice())?;
         meter.passed(walk.next_event());
     }
