@@ -12,24 +12,32 @@ use std::alloc::Global;
 use text_markup::{Draft, Key, Tag};
 use view_timeline::{Deed, Mark, Piece, Shown, say, wait_name};
 
-/// A label at a point of the lower row, or of the upper one, where there is room for it.
+// A label whose baseline begins at a point, if it stands in the upper row.
+#[derive(Clone, Copy)]
+struct Caption<'a> {
+    class: &'a str,
+    x: u32,
+    y: u32,
+    text: &'a str,
+}
+
+// A label in the lower row, or in the upper one, where there is room for it.
 fn label_if_room(
     draft: Draft,
     rows: &mut Rows,
     cpu: u8,
-    class: &str,
-    at: (u32, u32),
-    text: &str,
+    caption: Caption<'_>,
 ) -> Result<Draft, Refused>
     requires content { draft.in_tag ≡ false }
     requires inside { 0 < length draft.tags }
     ensures { IfOk result (λ new. new ≡ draft) }
 {
-    if takes_room(&mut rows.lower, cpu, at.0, text) {
-        return label(draft, class, at.0, at.1.saturating_add(LABEL), text);
+    let Caption { class, x, y, text } = caption;
+    if takes_room(&mut rows.lower, cpu, x, text) {
+        return label(draft, class, x, y.saturating_add(LABEL), text);
     }
-    if takes_room(&mut rows.upper, cpu, at.0, text) {
-        return label(draft, class, at.0, at.1, text);
+    if takes_room(&mut rows.upper, cpu, x, text) {
+        return label(draft, class, x, y, text);
     }
     Ok(draft)
 }
@@ -110,27 +118,25 @@ pub(crate) fn push_head(out: &mut String, x: u32, from: u32, to: u32) -> Result<
     push_point(out, x.saturating_add(3), back)
 }
 
-fn arrow(
-    draft: Draft,
-    alloc: Global,
-    class: &str,
-    x: u32,
-    ends: (u32, u32),
-    words: &str,
-) -> Result<Draft, Refused>
+/// An upright arrow: its class, its place, and where it begins and ends.
+#[derive(Clone, Copy)]
+pub(crate) struct Shaft<'a> {
+    pub(crate) class: &'a str,
+    pub(crate) x: u32,
+    pub(crate) from: u32,
+    pub(crate) to: u32,
+}
+
+fn arrow(draft: Draft, alloc: Global, shaft: Shaft<'_>, words: &str) -> Result<Draft, Refused>
     requires content { draft.in_tag ≡ false }
     requires inside { 0 < length draft.tags }
     ensures { IfOk result (λ new. new ≡ draft) }
 {
-    let sides = [
-        (Key::X1, x),
-        (Key::Y1, ends.0),
-        (Key::X2, x),
-        (Key::Y2, ends.1),
-    ];
+    let Shaft { class, x, from, to } = shaft;
+    let sides = [(Key::X1, x), (Key::Y1, from), (Key::X2, x), (Key::Y2, to)];
     let draft = shape(draft, Tag::Line, class, &sides, words)?;
     let mut head = String::new(alloc);
-    push_head(&mut head, x, ends.0, ends.1)?;
+    push_head(&mut head, x, from, to)?;
     polygon(draft, class, head.as_str(), words)
 }
 
@@ -151,7 +157,6 @@ fn ends(at: Place<'_>, mark: &Mark, actor: Option<u8>, cpu: u8) -> (u32, u32) {
 // The arrow of a mark about a wait or a rank; no other mark has one.
 fn mark_arrow(
     draft: Draft,
-    alloc: Global,
     at: Place<'_>,
     shown: &Shown,
     mark: &Mark,
@@ -164,17 +169,20 @@ fn mark_arrow(
     let (Some(class), Some(cpu)) = (arrow_class(mark), shown.subject) else {
         return Ok(draft);
     };
-    let words = words_of(alloc, at, shown)?;
+    let words = words_of(at, shown)?;
     let x = at.x.saturating_add(offset(mark));
-    let both = ends(at, mark, shown.actor, cpu);
-    let draft = arrow(draft, alloc, class, x, both, words.as_str())?;
-    let mut name = String::new(alloc);
+    let (from, to) = ends(at, mark, shown.actor, cpu);
+    let shaft = Shaft { class, x, from, to };
+    let draft = arrow(draft, at.alloc, shaft, words.as_str())?;
+    let mut name = String::new(at.alloc);
     push_arrow_name(&mut name, mark)?;
-    let place = (
-        label_x(x, mark, shown.actor, cpu),
-        y_of(at.top, cpu, ARROWS),
-    );
-    label_if_room(draft, rows, cpu, class, place, name.as_str())
+    let caption = Caption {
+        class,
+        x: label_x(x, mark, shown.actor, cpu),
+        y: y_of(at.top, cpu, ARROWS),
+        text: name.as_str(),
+    };
+    label_if_room(draft, rows, cpu, caption)
 }
 
 /// Appends the points of a diamond around a point.
@@ -188,7 +196,6 @@ pub(crate) fn push_diamond(out: &mut String, x: u32, y: u32) -> Result<(), Refus
 // A put, signal or post of an object that woke no task.
 fn wasted_sign(
     draft: Draft,
-    alloc: Global,
     at: Place<'_>,
     shown: &Shown,
     object: Wait,
@@ -201,21 +208,25 @@ fn wasted_sign(
     let Some(cpu) = shown.subject else {
         return Ok(draft);
     };
-    let words = words_of(alloc, at, shown)?;
+    let words = words_of(at, shown)?;
     let x = at.x.saturating_add(8);
-    let mut points = String::new(alloc);
+    let mut points = String::new(at.alloc);
     push_diamond(&mut points, x, y_of(at.top, cpu, BAND).saturating_add(7))?;
     let draft = polygon(draft, "hollow", points.as_str(), words.as_str())?;
-    let mut name = String::new(alloc);
+    let mut name = String::new(at.alloc);
     push_short(&mut name, object)?;
-    let place = (at.x.saturating_add(2), y_of(at.top, cpu, ARROWS));
-    label_if_room(draft, rows, cpu, "hollow", place, name.as_str())
+    let caption = Caption {
+        class: "hollow",
+        x: at.x.saturating_add(2),
+        y: y_of(at.top, cpu, ARROWS),
+        text: name.as_str(),
+    };
+    label_if_room(draft, rows, cpu, caption)
 }
 
 /// The sign of a wait, a rank, or of what woke no task; nothing else has one here.
 pub(crate) fn arrow_sign(
     draft: Draft,
-    alloc: Global,
     at: Place<'_>,
     shown: &Shown,
     rows: &mut Rows,
@@ -225,7 +236,7 @@ pub(crate) fn arrow_sign(
     ensures { IfOk result (λ new. new ≡ draft) }
 {
     match shown.deed {
-        Deed::Mark(mark) => mark_arrow(draft, alloc, at, shown, &mark, rows),
-        Deed::Wasted(_, object) => wasted_sign(draft, alloc, at, shown, object, rows),
+        Deed::Mark(mark) => mark_arrow(draft, at, shown, &mark, rows),
+        Deed::Wasted(_, object) => wasted_sign(draft, at, shown, object, rows),
     }
 }

@@ -22,9 +22,10 @@ pub(crate) enum Subject {
     Mutex(u8),
 }
 
-/// A row of a strip, and where it stands.
+/// A row of a strip, where it stands, and what its words are made of.
 #[derive(Clone, Copy)]
 pub(crate) struct Row<'a> {
+    pub(crate) alloc: Global,
     pub(crate) subject: Subject,
     pub(crate) y: u32,
     pub(crate) naming: Naming<'a>,
@@ -83,14 +84,8 @@ fn push_range(out: &mut String, first: &Cell, last: &Cell) -> Result<(), Refused
     say(out, &pieces)
 }
 
-fn bar_words(
-    alloc: Global,
-    row: &Row<'_>,
-    task: u8,
-    first: &Cell,
-    last: &Cell,
-) -> Result<String, Refused> {
-    let mut words = String::new(alloc);
+fn bar_words(row: &Row<'_>, task: u8, first: &Cell, last: &Cell) -> Result<String, Refused> {
+    let mut words = String::new(row.alloc);
     push_range(&mut words, first, last)?;
     say(&mut words, &[Piece::Text(": ")])?;
     push_task(&mut words, task, row.naming)?;
@@ -112,8 +107,8 @@ fn bar_words(
     Ok(words)
 }
 
-fn shade_words(alloc: Global, row: &Row<'_>, first: &Cell, last: &Cell) -> Result<String, Refused> {
-    let mut words = String::new(alloc);
+fn shade_words(row: &Row<'_>, first: &Cell, last: &Cell) -> Result<String, Refused> {
+    let mut words = String::new(row.alloc);
     push_range(&mut words, first, last)?;
     match row.subject {
         Subject::Stage(cpu, stage) => {
@@ -147,7 +142,6 @@ fn span_sides(row: &Row<'_>, column: usize, count: usize) -> [(Key, u32); 4] {
 
 fn bar(
     draft: Draft,
-    alloc: Global,
     row: &Row<'_>,
     column: usize,
     cells: &[Cell],
@@ -160,7 +154,7 @@ fn bar(
     let (Some(first), Some(last)) = (cells.first(), cells.last()) else {
         return Ok(draft);
     };
-    let words = bar_words(alloc, row, task, first, last)?;
+    let words = bar_words(row, task, first, last)?;
     let at = span_sides(row, column, cells.len());
     shape(draft, Tag::Rectangle, task_class(task), &at, words.as_str())
 }
@@ -168,7 +162,6 @@ fn bar(
 // The name of a task on its bar, of so many cells.
 fn named(
     draft: Draft,
-    alloc: Global,
     row: &Row<'_>,
     column: usize,
     count: usize,
@@ -179,7 +172,7 @@ fn named(
     ensures { IfOk result (λ new. new ≡ draft) }
 {
     let width = CELL.saturating_mul(u32::try_from(count).unwrap_or(u32::MAX));
-    let name = bar_name(alloc, task, row.naming, width)?;
+    let name = bar_name(row.alloc, task, row.naming, width)?;
     let x = x_of(column).saturating_add(4);
     let y = row.y.saturating_add(13);
     let class = if task % 8 == 2 || task % 8 == 4 || task % 8 == 5 {
@@ -190,13 +183,7 @@ fn named(
     label(draft, class, x, y, name.as_str())
 }
 
-fn stall(
-    draft: Draft,
-    alloc: Global,
-    row: &Row<'_>,
-    column: usize,
-    cells: &[Cell],
-) -> Result<Draft, Refused>
+fn stall(draft: Draft, row: &Row<'_>, column: usize, cells: &[Cell]) -> Result<Draft, Refused>
     requires content { draft.in_tag ≡ false }
     requires inside { 0 < length draft.tags }
     ensures { IfOk result (λ new. new ≡ draft) }
@@ -204,7 +191,7 @@ fn stall(
     let (Some(first), Some(last)) = (cells.first(), cells.last()) else {
         return Ok(draft);
     };
-    let words = shade_words(alloc, row, first, last)?;
+    let words = shade_words(row, first, last)?;
     let at = span_sides(row, column, cells.len());
     shape(draft, Tag::Rectangle, "stall", &at, words.as_str())
 }
@@ -266,13 +253,7 @@ fn begins_stall(cells: &[Cell], row: &Row<'_>, i: usize) -> bool {
 }
 
 // The run of a task that begins in the first of the cells.
-fn task_bar(
-    draft: Draft,
-    alloc: Global,
-    row: &Row<'_>,
-    column: usize,
-    cells: &[Cell],
-) -> Result<Draft, Refused>
+fn task_bar(draft: Draft, row: &Row<'_>, column: usize, cells: &[Cell]) -> Result<Draft, Refused>
     requires content { draft.in_tag ≡ false }
     requires inside { 0 < length draft.tags }
     ensures { IfOk result (λ new. new ≡ draft) }
@@ -284,19 +265,13 @@ fn task_bar(
         None => Ok(draft),
         Some(task) => {
             let count = task_run(cells, row, Some(task));
-            bar(draft, alloc, row, column, front(cells, count), task)
+            bar(draft, row, column, front(cells, count), task)
         }
     }
 }
 
 // The name of a task whose run begins in the first of the cells.
-fn task_name(
-    draft: Draft,
-    alloc: Global,
-    row: &Row<'_>,
-    column: usize,
-    cells: &[Cell],
-) -> Result<Draft, Refused>
+fn task_name(draft: Draft, row: &Row<'_>, column: usize, cells: &[Cell]) -> Result<Draft, Refused>
     requires content { draft.in_tag ≡ false }
     requires inside { 0 < length draft.tags }
     ensures { IfOk result (λ new. new ≡ draft) }
@@ -308,18 +283,13 @@ fn task_name(
         None => Ok(draft),
         Some(task) => {
             let count = task_run(cells, row, Some(task));
-            named(draft, alloc, row, column, count, task)
+            named(draft, row, column, count, task)
         }
     }
 }
 
 /// The names of the tasks of a row, on their bars.
-pub(crate) fn bar_names(
-    draft: Draft,
-    alloc: Global,
-    row: &Row<'_>,
-    cells: &[Cell],
-) -> Result<Draft, Refused>
+pub(crate) fn bar_names(draft: Draft, row: &Row<'_>, cells: &[Cell]) -> Result<Draft, Refused>
     requires content { draft.in_tag ≡ false }
     requires inside { 0 < length draft.tags }
     ensures { IfOk result (λ new. new ≡ draft) }
@@ -327,19 +297,14 @@ pub(crate) fn bar_names(
     let mut draft = draft;
     for i in 0..cells.len() {
         if changes_task(cells, row, i) {
-            draft = task_name(draft, alloc, row, i, &cells[i..])?;
+            draft = task_name(draft, row, i, &cells[i..])?;
         }
     }
     Ok(draft)
 }
 
 /// The bars of the tasks of a row.
-pub(crate) fn bars(
-    draft: Draft,
-    alloc: Global,
-    row: &Row<'_>,
-    cells: &[Cell],
-) -> Result<Draft, Refused>
+pub(crate) fn bars(draft: Draft, row: &Row<'_>, cells: &[Cell]) -> Result<Draft, Refused>
     requires content { draft.in_tag ≡ false }
     requires inside { 0 < length draft.tags }
     ensures { IfOk result (λ new. new ≡ draft) }
@@ -347,19 +312,14 @@ pub(crate) fn bars(
     let mut draft = draft;
     for i in 0..cells.len() {
         if changes_task(cells, row, i) {
-            draft = task_bar(draft, alloc, row, i, &cells[i..])?;
+            draft = task_bar(draft, row, i, &cells[i..])?;
         }
     }
     Ok(draft)
 }
 
 /// The shades of a row: its stalls, or where a task waits for its mutex.
-pub(crate) fn stalls(
-    draft: Draft,
-    alloc: Global,
-    row: &Row<'_>,
-    cells: &[Cell],
-) -> Result<Draft, Refused>
+pub(crate) fn stalls(draft: Draft, row: &Row<'_>, cells: &[Cell]) -> Result<Draft, Refused>
     requires content { draft.in_tag ≡ false }
     requires inside { 0 < length draft.tags }
     ensures { IfOk result (λ new. new ≡ draft) }
@@ -368,7 +328,7 @@ pub(crate) fn stalls(
     for i in 0..cells.len() {
         if begins_stall(cells, row, i) {
             let count = stall_run(&cells[i..], row, true);
-            draft = stall(draft, alloc, row, i, front(&cells[i..], count))?;
+            draft = stall(draft, row, i, front(&cells[i..], count))?;
         }
     }
     Ok(draft)

@@ -92,54 +92,50 @@ fn rectangle(
     title(draft, words)?.close()
 }
 
-fn boxed(
-    draft: Draft,
-    alloc: Global,
-    naming: Naming<'_>,
-    cell: &Cell,
-    lane: usize,
-    at: (u32, u32),
-) -> Result<Draft, Refused>
+/// The lane of the events of a processor, or of the machine: its number, its height, and what its words are made of.
+#[derive(Clone, Copy)]
+pub(crate) struct EventLane<'a> {
+    pub(crate) alloc: Global,
+    pub(crate) naming: Naming<'a>,
+    pub(crate) number: usize,
+    pub(crate) y: u32,
+}
+
+fn boxed(draft: Draft, lane: &EventLane<'_>, cell: &Cell, x: u32) -> Result<Draft, Refused>
     requires content { draft.in_tag ≡ false }
     requires inside { 0 < length draft.tags }
-    ensures { IfOk result (λ new. new ≡ with_boxes (box_of lane cell.now) draft) }
+    ensures { IfOk result (λ new. new ≡ with_boxes (box_of lane.now.number cell.now) draft) }
 {
-    let events = share(cell, lane);
+    let events = share(cell, lane.number);
     if events == 0 {
         return Ok(draft);
     }
     let share = Share {
-        lane: lane as u64,
+        lane: lane.number as u64,
         first: cell.first,
         count: cell.count,
         events,
     };
-    let mut words = String::new(alloc);
-    push_share(&mut words, naming, cell, lane, events)?;
+    let mut words = String::new(lane.alloc);
+    push_share(&mut words, lane.naming, cell, lane.number, events)?;
+    let at = (x, lane.y);
     let draft = rectangle(draft, share, event_class(cell), at, words.as_str())?;
-    let mut sign = String::new(alloc);
+    let mut sign = String::new(lane.alloc);
     push_sign(&mut sign, cell, events)?;
-    let (x, y) = (at.0.saturating_add(8), at.1.saturating_add(10));
+    let (x, y) = (x.saturating_add(8), lane.y.saturating_add(10));
     label(draft, "s", x, y, sign.as_str())
 }
 
-/// The boxes of a lane, at a height.
-pub(crate) fn boxes(
-    draft: Draft,
-    alloc: Global,
-    naming: Naming<'_>,
-    lane: usize,
-    y: u32,
-    cells: &[Cell],
-) -> Result<Draft, Refused>
+/// The boxes of a lane.
+pub(crate) fn boxes(draft: Draft, lane: &EventLane<'_>, cells: &[Cell]) -> Result<Draft, Refused>
     requires content { draft.in_tag ≡ false }
     requires inside { 0 < length draft.tags }
-    ensures { IfOk result (λ new. new ≡ with_boxes (lane_boxes lane cells.now) draft) }
+    ensures { IfOk result (λ new. new ≡ with_boxes (lane_boxes lane.now.number cells.now) draft) }
 {
     let mut draft = draft;
     let mut column = 0usize;
     for cell in cells {
-        draft = boxed(draft, alloc, naming, cell, lane, (x_of(column), y))?;
+        draft = boxed(draft, lane, cell, x_of(column))?;
         column = column.saturating_add(1);
     }
     Ok(draft)

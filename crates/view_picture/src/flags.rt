@@ -8,7 +8,6 @@ use crate::room::{Rows, takes_room};
 use crate::shapes::{label, polygon};
 use evm_model::{Stage, Wait};
 use evm_room::Refused;
-use std::alloc::Global;
 use text_markup::Draft;
 use view_timeline::{Deed, Mark, Piece, Shown, say};
 
@@ -65,7 +64,6 @@ pub(crate) fn push_flag(out: &mut String, x: u32, y: u32) -> Result<(), Refused>
 /// The flag of a mark, if it has one.
 pub(crate) fn flag_sign(
     draft: Draft,
-    alloc: Global,
     at: Place<'_>,
     shown: &Shown,
     rows: &mut Rows,
@@ -81,8 +79,8 @@ pub(crate) fn flag_sign(
         return Ok(draft);
     };
     let class = if is_alarm(&mark) { "alarm" } else { "flag" };
-    let words = words_of(alloc, at, shown)?;
-    let mut name = String::new(alloc);
+    let words = words_of(at, shown)?;
+    let mut name = String::new(at.alloc);
     say(
         &mut name,
         &[Piece::Text(word), Piece::Number(u64::from(task))],
@@ -90,7 +88,7 @@ pub(crate) fn flag_sign(
     let x = at.x.saturating_add(2);
     let row = row_of(rows, cpu, x, name.as_str());
     let y = y_of(at.top, cpu, FLAGS).saturating_add(row.saturating_mul(LABEL));
-    let mut points = String::new(alloc);
+    let mut points = String::new(at.alloc);
     push_flag(&mut points, x, y)?;
     let draft = polygon(draft, class, points.as_str(), words.as_str())?;
     if row < 2 {

@@ -2,7 +2,7 @@
 
 ghost use Rattle.std.specs.Prelude.{◌≡◌, ◌<◌, false, IfOk, length};
 
-use crate::arrows::{push_diamond, push_head};
+use crate::arrows::{Shaft, push_diamond, push_head};
 use crate::flags::push_flag;
 use crate::lines::push_point;
 use crate::shapes::{label, plain};
@@ -62,19 +62,12 @@ fn triangle(draft: Draft, alloc: Global, class: &str, x: u32, y: u32) -> Result<
 }
 
 // An arrow that ends above, or below.
-fn arrow(
-    draft: Draft,
-    alloc: Global,
-    class: &str,
-    x: u32,
-    from: u32,
-    to: u32,
-) -> Result<Draft, Refused>
+fn arrow(draft: Draft, alloc: Global, shaft: Shaft<'_>) -> Result<Draft, Refused>
     requires content { draft.in_tag ≡ false }
     requires inside { 0 < length draft.tags }
     ensures { IfOk result (λ new. new ≡ draft) }
 {
-    let x = x.saturating_add(6);
+    let Shaft { class, x, from, to } = shaft;
     let sides = [(Key::X1, x), (Key::Y1, from), (Key::X2, x), (Key::Y2, to)];
     let draft = plain(draft, Tag::Line, class, &sides)?;
     let mut points = String::new(alloc);
@@ -121,31 +114,28 @@ struct Sign {
     words: &'static str,
 }
 
+// The arrow of a sign.
+fn upright(sign: &Sign, x: u32, from: u32, to: u32) -> Shaft<'static> {
+    Shaft {
+        class: sign.class,
+        x: x.saturating_add(6),
+        from,
+        to,
+    }
+}
+
 fn draw_sign(draft: Draft, alloc: Global, sign: &Sign, x: u32, y: u32) -> Result<Draft, Refused>
     requires content { draft.in_tag ≡ false }
     requires inside { 0 < length draft.tags }
     ensures { IfOk result (λ new. new ≡ draft) }
 {
+    let (above, below) = (y.saturating_sub(10), y.saturating_add(2));
     let draft = match sign.look {
         Look::Block => block(draft, sign.class, x, y)?,
         Look::Disc => disc(draft, sign.class, x, y)?,
         Look::Triangle => triangle(draft, alloc, sign.class, x, y)?,
-        Look::Up => arrow(
-            draft,
-            alloc,
-            sign.class,
-            x,
-            y.saturating_add(2),
-            y.saturating_sub(10),
-        )?,
-        Look::Down => arrow(
-            draft,
-            alloc,
-            sign.class,
-            x,
-            y.saturating_sub(10),
-            y.saturating_add(2),
-        )?,
+        Look::Up => arrow(draft, alloc, upright(sign, x, below, above))?,
+        Look::Down => arrow(draft, alloc, upright(sign, x, above, below))?,
         Look::Flag => flag(draft, alloc, sign.class, x, y)?,
         Look::Diamond => diamond(draft, alloc, sign.class, x, y)?,
     };

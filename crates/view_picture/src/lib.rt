@@ -12,6 +12,7 @@ mod names;
 mod parting;
 mod room;
 mod shapes;
+mod sheet;
 mod style;
 mod svg;
 

@@ -13,6 +13,7 @@ use view_timeline::{Deed, Mark, Naming, Piece, Shown, push_shown, say};
 /// Where marks are drawn: the left side of their cell, and the top of their strip; and the names for their words.
 #[derive(Clone, Copy)]
 pub(crate) struct Place<'a> {
+    pub(crate) alloc: Global,
     pub(crate) x: u32,
     pub(crate) top: u32,
     pub(crate) naming: Naming<'a>,
@@ -30,8 +31,8 @@ pub(crate) fn push_point(out: &mut String, x: u32, y: u32) -> Result<(), Refused
 }
 
 /// The words of a mark.
-pub(crate) fn words_of(alloc: Global, at: Place<'_>, shown: &Shown) -> Result<String, Refused> {
-    let mut words = String::new(alloc);
+pub(crate) fn words_of(at: Place<'_>, shown: &Shown) -> Result<String, Refused> {
+    let mut words = String::new(at.alloc);
     push_shown(&mut words, shown, at.naming)?;
     Ok(words)
 }
@@ -47,27 +48,20 @@ fn line_label(draft: Draft, alloc: Global, line: u8, x: u32, y: u32) -> Result<D
 }
 
 // A triangle that points up, for a raise.
-fn raise(
-    draft: Draft,
-    alloc: Global,
-    at: Place<'_>,
-    cpu: u8,
-    line: u8,
-    words: &str,
-) -> Result<Draft, Refused>
+fn raise(draft: Draft, at: Place<'_>, cpu: u8, line: u8, words: &str) -> Result<Draft, Refused>
     requires content { draft.in_tag ≡ false }
     requires inside { 0 < length draft.tags }
     ensures { IfOk result (λ new. new ≡ draft) }
 {
     let y = y_of(at.top, cpu, RAISED);
-    let mut points = String::new(alloc);
+    let mut points = String::new(at.alloc);
     push_point(&mut points, at.x.saturating_add(1), y.saturating_add(12))?;
     push_point(&mut points, at.x.saturating_add(5), y.saturating_add(4))?;
     push_point(&mut points, at.x.saturating_add(8), y.saturating_add(12))?;
     let draft = polygon(draft, "raise", points.as_str(), words)?;
     line_label(
         draft,
-        alloc,
+        at.alloc,
         line,
         at.x.saturating_add(10),
         y.saturating_add(12),
@@ -75,14 +69,7 @@ fn raise(
 }
 
 // A ring, for a receive.
-fn receive(
-    draft: Draft,
-    alloc: Global,
-    at: Place<'_>,
-    cpu: u8,
-    line: u8,
-    words: &str,
-) -> Result<Draft, Refused>
+fn receive(draft: Draft, at: Place<'_>, cpu: u8, line: u8, words: &str) -> Result<Draft, Refused>
     requires content { draft.in_tag ≡ false }
     requires inside { 0 < length draft.tags }
     ensures { IfOk result (λ new. new ≡ draft) }
@@ -96,7 +83,7 @@ fn receive(
     let draft = shape(draft, Tag::Circle, "receive", &sides, words)?;
     line_label(
         draft,
-        alloc,
+        at.alloc,
         line,
         at.x.saturating_add(10),
         y.saturating_add(12),
@@ -123,12 +110,7 @@ fn play(draft: Draft, at: Place<'_>, cpu: u8, stage: Stage, words: &str) -> Resu
 }
 
 /// The sign of a mark about a line; no other mark has one here.
-pub(crate) fn line_sign(
-    draft: Draft,
-    alloc: Global,
-    at: Place<'_>,
-    shown: &Shown,
-) -> Result<Draft, Refused>
+pub(crate) fn line_sign(draft: Draft, at: Place<'_>, shown: &Shown) -> Result<Draft, Refused>
     requires content { draft.in_tag ≡ false }
     requires inside { 0 < length draft.tags }
     ensures { IfOk result (λ new. new ≡ draft) }
@@ -136,10 +118,10 @@ pub(crate) fn line_sign(
     let Deed::Mark(mark) = shown.deed else {
         return Ok(draft);
     };
-    let words = words_of(alloc, at, shown)?;
+    let words = words_of(at, shown)?;
     match mark {
-        Mark::Raised { cpu, line, .. } => raise(draft, alloc, at, cpu, line, words.as_str()),
-        Mark::Received { cpu, line, .. } => receive(draft, alloc, at, cpu, line, words.as_str()),
+        Mark::Raised { cpu, line, .. } => raise(draft, at, cpu, line, words.as_str()),
+        Mark::Received { cpu, line, .. } => receive(draft, at, cpu, line, words.as_str()),
         Mark::Played { cpu, stage, .. } => play(draft, at, cpu, stage, words.as_str()),
         _ => Ok(draft),
     }

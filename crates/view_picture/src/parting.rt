@@ -21,20 +21,26 @@ fn words_at(alloc: Global, event: u64) -> Result<String, Refused> {
     Ok(words)
 }
 
-/// A line through the lanes of a strip, at an event.
+/// Where two journals part: the column of a strip, and the event.
+#[derive(Clone, Copy)]
+pub(crate) struct Fork {
+    pub(crate) column: usize,
+    pub(crate) event: u64,
+}
+
+/// A line through the lanes of a strip, where two journals part.
 pub(crate) fn parting_sign(
     draft: Draft,
     alloc: Global,
     top: u32,
     cpu_count: u8,
-    column: usize,
-    event: u64,
+    fork: Fork,
 ) -> Result<Draft, Refused>
     requires content { draft.in_tag ≡ false }
     requires inside { 0 < length draft.tags }
     ensures { IfOk result (λ new. new ≡ draft) }
 {
-    let x = x_of(column);
+    let x = x_of(fork.column);
     let bottom = y_of(top, cpu_count, 0);
     let sides = [
         (Key::X1, x),
@@ -42,9 +48,9 @@ pub(crate) fn parting_sign(
         (Key::X2, x),
         (Key::Y2, bottom),
     ];
-    let words = words_at(alloc, event)?;
+    let words = words_at(alloc, fork.event)?;
     let draft = shape(draft, Tag::Line, "part", &sides, words.as_str())?;
-    let left = if column > STRIP / 2 { CELL * 6 } else { 0 };
+    let left = if fork.column > STRIP / 2 { CELL * 6 } else { 0 };
     label(
         draft,
         "b",

@@ -1,12 +1,12 @@
 //! The picture of a timeline.
 
-ghost use Rattle.std.specs.Prelude.{◌≡◌, ◌<◌, ◌∷◌, [], false, IfOk, length};
+ghost use Rattle.std.specs.Prelude.{◌≡◌, ◌<◌, false, IfOk, length};
 ghost use Rattle.view_picture.specs.Boxes.{boxes_of, lane_boxes, strip_boxes, with_boxes};
 ghost use Rattle.text_markup.specs.Xml.{IsElement};
 
 use crate::arrows::arrow_sign;
 use crate::bars::{Row, Subject, bar_names, bars, stalls};
-use crate::events::boxes;
+use crate::events::{EventLane, boxes};
 use crate::flags::flag_sign;
 use crate::layout::{
     CELL, EVENTS, IN_BAND, LEFT, LEGEND, NAMES, OUT_OF_BAND, RAISED, RECEIVED, ROW, mutex_y,
@@ -15,30 +15,30 @@ use crate::layout::{
 use crate::legend::legend;
 use crate::lines::{Place, line_sign};
 use crate::names::mutex_name;
-use crate::parting::parting_sign;
+use crate::parting::{Fork, parting_sign};
 use crate::room::Rows;
 use crate::shapes::{label, plain};
-use crate::style::STYLE;
+use crate::sheet::{begun, heading};
 use evm_model::{PROCESSOR_LIMIT, Stage};
 use evm_room::Refused;
 use std::alloc::Global;
 use text_markup::{Draft, Key, Tag, finished};
 use view_timeline::{
-    Cell, Naming, Picture, Piece, STRIP, Shown, Timeline, column_in, column_of, say, stage_name,
-    strip_count,
+    Cell, Naming, Picture, Piece, STRIP, Shown, column_in, column_of, say, stage_name, strip_count,
 };
 
 // Cells that stand side by side, with their marks.
 #[derive(Clone, Copy)]
 struct Strip<'a> {
+    alloc: Global,
     cells: &'a [Cell],
     marks: &'a [Shown],
     naming: Naming<'a>,
     top: u32,
     cpu_count: u8,
     mutex_count: u8,
-    // the column and the event where two journals part
-    parts: Option<(usize, u64)>,
+    // where two journals part
+    fork: Option<Fork>,
 }
 
 fn cpu_name(alloc: Global, cpu: u8) -> Result<String, Refused> {
@@ -52,6 +52,7 @@ fn cpu_name(alloc: Global, cpu: u8) -> Result<String, Refused> {
 
 fn stage_row<'a>(strip: &Strip<'a>, cpu: u8, stage: Stage, part: u32) -> Row<'a> {
     Row {
+        alloc: strip.alloc,
         subject: Subject::Stage(cpu, stage),
         y: y_of(strip.top, cpu, part),
         naming: strip.naming,
@@ -65,18 +66,18 @@ fn rows_of<'a>(strip: &Strip<'a>, cpu: u8) -> [Row<'a>; 2] {
     ]
 }
 
-fn row_words(alloc: Global, row: &Row<'_>) -> Result<String, Refused> {
+fn row_words(row: &Row<'_>) -> Result<String, Refused> {
     match row.subject {
-        Subject::Mutex(mutex) => mutex_name(alloc, mutex, row.naming),
+        Subject::Mutex(mutex) => mutex_name(row.alloc, mutex, row.naming),
         Subject::Stage(_, stage) => {
-            let mut words = String::new(alloc);
+            let mut words = String::new(row.alloc);
             say(&mut words, &[Piece::Text(stage_name(stage))])?;
             Ok(words)
         }
     }
 }
 
-fn draw_row(draft: Draft, alloc: Global, row: &Row<'_>, cells: &[Cell]) -> Result<Draft, Refused>
+fn draw_row(draft: Draft, row: &Row<'_>, cells: &[Cell]) -> Result<Draft, Refused>
     requires content { draft.in_tag ≡ false }
     requires inside { 0 < length draft.tags }
     ensures { IfOk result (λ new. new ≡ draft) }
@@ -87,16 +88,16 @@ fn draw_row(draft: Draft, alloc: Global, row: &Row<'_>, cells: &[Cell]) -> Resul
         (Key::Width, x_of(cells.len()).saturating_sub(LEFT)),
         (Key::Height, ROW),
     ];
-    let words = row_words(alloc, row)?;
+    let words = row_words(row)?;
     let draft = plain(draft, Tag::Rectangle, "row", &sides)?;
     let draft = label(draft, "d", NAMES, row.y.saturating_add(13), words.as_str())?;
-    let draft = bars(draft, alloc, row, cells)?;
-    let draft = stalls(draft, alloc, row, cells)?;
-    bar_names(draft, alloc, row, cells)
+    let draft = bars(draft, row, cells)?;
+    let draft = stalls(draft, row, cells)?;
+    bar_names(draft, row, cells)
 }
 
 // The lanes of the mutexes, below those of the processors.
-fn mutex_lanes(draft: Draft, alloc: Global, strip: &Strip<'_>) -> Result<Draft, Refused>
+fn mutex_lanes(draft: Draft, strip: &Strip<'_>) -> Result<Draft, Refused>
     requires content { draft.in_tag ≡ false }
     requires inside { 0 < length draft.tags }
     ensures { IfOk result (λ new. new ≡ draft) }
@@ -104,11 +105,12 @@ fn mutex_lanes(draft: Draft, alloc: Global, strip: &Strip<'_>) -> Result<Draft, 
     let mut draft = draft;
     for mutex in 0..strip.mutex_count {
         let row = Row {
+            alloc: strip.alloc,
             subject: Subject::Mutex(mutex),
             y: mutex_y(strip.top, strip.cpu_count, mutex),
             naming: strip.naming,
         };
-        draft = draw_row(draft, alloc, &row, strip.cells)?;
+        draft = draw_row(draft, &row, strip.cells)?;
     }
     Ok(draft)
 }
@@ -129,22 +131,27 @@ fn row_name(
     label(draft, "d", NAMES, y, name)
 }
 
-fn lane(draft: Draft, alloc: Global, strip: &Strip<'_>, cpu: u8) -> Result<Draft, Refused>
+fn lane(draft: Draft, strip: &Strip<'_>, cpu: u8) -> Result<Draft, Refused>
     requires content { draft.in_tag ≡ false }
     requires inside { 0 < length draft.tags }
     ensures { IfOk result (λ new. new ≡ with_boxes (lane_boxes cpu strip.now.cells.now) draft) }
 {
-    let name = cpu_name(alloc, cpu)?;
+    let name = cpu_name(strip.alloc, cpu)?;
     let y = y_of(strip.top, cpu, 60);
     let mut draft = label(draft, "b", 8, y, name.as_str())?;
     for one in &rows_of(strip, cpu) {
-        draft = draw_row(draft, alloc, one, strip.cells)?;
+        draft = draw_row(draft, one, strip.cells)?;
     }
     let draft = row_name(draft, strip, cpu, RAISED, "raised")?;
     let draft = row_name(draft, strip, cpu, RECEIVED, "received")?;
     let draft = row_name(draft, strip, cpu, EVENTS, "events")?;
-    let y = y_of(strip.top, cpu, EVENTS);
-    boxes(draft, alloc, strip.naming, usize::from(cpu), y, strip.cells)
+    let lane = EventLane {
+        alloc: strip.alloc,
+        naming: strip.naming,
+        number: usize::from(cpu),
+        y: y_of(strip.top, cpu, EVENTS),
+    };
+    boxes(draft, &lane, strip.cells)
 }
 
 fn tick(draft: Draft, alloc: Global, cell: &Cell, x: u32, top: u32) -> Result<Draft, Refused>
@@ -166,7 +173,7 @@ fn tick(draft: Draft, alloc: Global, cell: &Cell, x: u32, top: u32) -> Result<Dr
 }
 
 // The numbers of the events, at each fourth cell.
-fn ruler(draft: Draft, alloc: Global, strip: &Strip<'_>) -> Result<Draft, Refused>
+fn ruler(draft: Draft, strip: &Strip<'_>) -> Result<Draft, Refused>
     requires content { draft.in_tag ≡ false }
     requires inside { 0 < length draft.tags }
     ensures { IfOk result (λ new. new ≡ draft) }
@@ -175,7 +182,7 @@ fn ruler(draft: Draft, alloc: Global, strip: &Strip<'_>) -> Result<Draft, Refuse
     let mut column = 0usize;
     for cell in strip.cells {
         if column % 4 == 0 {
-            draft = tick(draft, alloc, cell, x_of(column), strip.top)?;
+            draft = tick(draft, strip.alloc, cell, x_of(column), strip.top)?;
         }
         column = column.saturating_add(1);
     }
@@ -184,7 +191,6 @@ fn ruler(draft: Draft, alloc: Global, strip: &Strip<'_>) -> Result<Draft, Refuse
 
 fn sign(
     draft: Draft,
-    alloc: Global,
     at: Place<'_>,
     shown: &Shown,
     flags: &mut Rows,
@@ -194,15 +200,14 @@ fn sign(
     requires inside { 0 < length draft.tags }
     ensures { IfOk result (λ new. new ≡ draft) }
 {
-    let draft = line_sign(draft, alloc, at, shown)?;
-    let draft = flag_sign(draft, alloc, at, shown, flags)?;
-    arrow_sign(draft, alloc, at, shown, arrows)
+    let draft = line_sign(draft, at, shown)?;
+    let draft = flag_sign(draft, at, shown, flags)?;
+    arrow_sign(draft, at, shown, arrows)
 }
 
 // The signs of a cell, of the first marks.
 fn cell_signs(
     draft: Draft,
-    alloc: Global,
     at: Place<'_>,
     marks: &[Shown],
     flags: &mut Rows,
@@ -214,7 +219,7 @@ fn cell_signs(
 {
     let mut draft = draft;
     for shown in marks {
-        draft = sign(draft, alloc, at, shown, flags, arrows)?;
+        draft = sign(draft, at, shown, flags, arrows)?;
     }
     Ok(draft)
 }
@@ -225,7 +230,7 @@ fn cut(marks: &[Shown], count: u32) -> (&[Shown], &[Shown]) {
     (&marks[..at], &marks[at..])
 }
 
-fn signs(draft: Draft, alloc: Global, strip: &Strip<'_>) -> Result<Draft, Refused>
+fn signs(draft: Draft, strip: &Strip<'_>) -> Result<Draft, Refused>
     requires content { draft.in_tag ≡ false }
     requires inside { 0 < length draft.tags }
     ensures { IfOk result (λ new. new ≡ draft) }
@@ -237,37 +242,41 @@ fn signs(draft: Draft, alloc: Global, strip: &Strip<'_>) -> Result<Draft, Refuse
     let mut column = 0usize;
     for cell in strip.cells {
         let at = Place {
+            alloc: strip.alloc,
             x: x_of(column),
             top: strip.top,
             naming: strip.naming,
         };
         let (marks, others) = cut(rest, cell.kept);
-        draft = cell_signs(draft, alloc, at, marks, &mut flags, &mut arrows)?;
+        draft = cell_signs(draft, at, marks, &mut flags, &mut arrows)?;
         rest = others;
         column = column.saturating_add(1);
     }
     Ok(draft)
 }
 
-fn draw_strip(draft: Draft, alloc: Global, strip: &Strip<'_>) -> Result<Draft, Refused>
+fn draw_strip(draft: Draft, strip: &Strip<'_>) -> Result<Draft, Refused>
     requires content { draft.in_tag ≡ false }
     requires inside { 0 < length draft.tags }
     ensures { IfOk result (λ new. new ≡ with_boxes (strip_boxes strip.now.cpu_count strip.now.cells.now) draft) }
 {
-    let draft = ruler(draft, alloc, strip)?;
+    let draft = ruler(draft, strip)?;
     let draft = label(draft, "b", 8, strip.top.saturating_add(33), "machine")?;
-    let y = strip.top.saturating_add(22);
-    let mut draft = boxes(draft, alloc, strip.naming, PROCESSOR_LIMIT, y, strip.cells)?;
+    let machine = EventLane {
+        alloc: strip.alloc,
+        naming: strip.naming,
+        number: PROCESSOR_LIMIT,
+        y: strip.top.saturating_add(22),
+    };
+    let mut draft = boxes(draft, &machine, strip.cells)?;
     for cpu in 0..strip.cpu_count {
-        draft = lane(draft, alloc, strip, cpu)?;
+        draft = lane(draft, strip, cpu)?;
     }
-    let draft = signs(draft, alloc, strip)?;
-    let draft = mutex_lanes(draft, alloc, strip)?;
-    match strip.parts {
+    let draft = signs(draft, strip)?;
+    let draft = mutex_lanes(draft, strip)?;
+    match strip.fork {
         None => Ok(draft),
-        Some((column, event)) => {
-            parting_sign(draft, alloc, strip.top, strip.cpu_count, column, event)
-        }
+        Some(fork) => parting_sign(draft, strip.alloc, strip.top, strip.cpu_count, fork),
     }
 }
 
@@ -282,6 +291,7 @@ fn kept_in(cells: &[Cell]) -> u32 {
 
 // The strip of a number, of the first cells and marks.
 fn strip_of<'a>(
+    alloc: Global,
     picture: &Picture<'a>,
     number: usize,
     cells: &'a [Cell],
@@ -291,24 +301,25 @@ fn strip_of<'a>(
     ensures count { result.cpu_count ≡ picture.now.timeline.now.cpu_count }
 {
     let timeline = picture.timeline;
-    let parts = match picture.parts {
+    let fork = match picture.parts {
         None => None,
         Some(event) => {
             let all = timeline.cells.as_slice();
             match column_in(number, column_of(all, event), all.len()) {
                 None => None,
-                Some(column) => Some((column, event)),
+                Some(column) => Some(Fork { column, event }),
             }
         }
     };
     Strip {
+        alloc,
         cells,
         marks,
         naming: picture.naming,
         top: strip_top(number, timeline.cpu_count, picture.mutex_count()),
         cpu_count: timeline.cpu_count,
         mutex_count: picture.mutex_count(),
-        parts,
+        fork,
     }
 }
 
@@ -323,56 +334,12 @@ fn strips(draft: Draft, alloc: Global, picture: &Picture<'_>) -> Result<Draft, R
     for number in 0..strip_count(cells.len()) {
         let at = STRIP.min(cells.len());
         let (here, others) = cut(marks, kept_in(&cells[..at]));
-        let one = strip_of(picture, number, &cells[..at], here);
-        draft = draw_strip(draft, alloc, &one)?;
+        let one = strip_of(alloc, picture, number, &cells[..at], here);
+        draft = draw_strip(draft, &one)?;
         marks = others;
         cells = &cells[at..];
     }
     Ok(draft)
-}
-
-fn heading(alloc: Global, timeline: &Timeline) -> Result<String, Refused> {
-    let mut text = String::new(alloc);
-    match (timeline.cells.first(), timeline.cells.last()) {
-        (Some(first), Some(last)) => say(
-            &mut text,
-            &[
-                Piece::Text("events "),
-                Piece::Number(first.first),
-                Piece::Text(" to "),
-                Piece::Number(last.first.saturating_add(last.count.saturating_sub(1))),
-            ],
-        )?,
-        _ => say(&mut text, &[Piece::Text("no event")])?,
-    }
-    Ok(text)
-}
-
-fn view_box(alloc: Global, width: u32, height: u32) -> Result<String, Refused> {
-    let mut text = String::new(alloc);
-    let pieces = [
-        Piece::Text("0 0 "),
-        Piece::Number(u64::from(width)),
-        Piece::Text(" "),
-        Piece::Number(u64::from(height)),
-    ];
-    say(&mut text, &pieces)?;
-    Ok(text)
-}
-
-fn begun(alloc: Global, width: u32, height: u32) -> Result<Draft, Refused>
-    ensures { IfOk result (λ draft. draft ≡ record { tags = Tag.Svg ∷ []; in_tag = false; shares = [] }) }
-{
-    let all = view_box(alloc, width, height)?;
-    let draft = Draft::svg(alloc)?
-        .attribute(Key::Namespace, "http://www.w3.org/2000/svg")?
-        .number(Key::Width, width)?
-        .number(Key::Height, height)?
-        .attribute(Key::ViewBox, all.as_str())?
-        .enter()?;
-    let draft = draft.open(Tag::Style)?.enter()?.text(STYLE)?.close()?;
-    let sides = [(Key::Width, width), (Key::Height, height)];
-    plain(draft, Tag::Rectangle, "paper", &sides)
 }
 
 /// The picture of a timeline, an SVG file.
