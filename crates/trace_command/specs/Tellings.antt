@@ -24,9 +24,9 @@ abbrev pub TellsInstants : Option Item → List Mark → ℕ → List Change →
 TellsInstants None marks at changes = instants_in changes ≡ []
 TellsInstants (Some item) marks at changes = instants_in changes ≡ event_instants at marks
 
-abbrev pub time_of : Clock → Option Item → ℕ → ℕ
-time_of clock None at = at
-time_of clock (Some item) at = time_behind clock item at
+abbrev pub time_behind_next : Clock → Option Item → ℕ → ℕ
+time_behind_next clock None at = at
+time_behind_next clock (Some item) at = time_behind clock item at
 
 -- these changes tell the item that comes next, if there is one: their instants are those of its marks, at this time; and the time behind it
 pub record TellsOn (clock : Clock) (before after : Walked) (at behind : ℕ) (changes : List Change) : Type 0 where
@@ -35,7 +35,7 @@ pub record TellsOn (clock : Clock) (before after : Walked) (at behind : ℕ) (ch
   pub next : IsNext (2 ^ 64 - 1) before item after
   pub marked : IsMarked item before.machine after.machine marks
   pub instants : TellsInstants item marks at changes
-  pub time : behind ≡ time_of clock item at
+  pub time : behind ≡ time_behind_next clock item at
 
 -- ---- call by call
 -- the journal goes on, or it is at its end

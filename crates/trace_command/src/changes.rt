@@ -1,13 +1,13 @@
 //! The changes that are told of each event.
 
 ghost use Rattle.std.specs.Prelude.{◌≡◌, ◌+◌, ◌*◌, ◌++◌, OnOk, flat_map, slice_get, slice_set};
-ghost use Rattle.std.specs.List.{list_any};
 ghost use Rattle.std.specs.Option.{option_flatten};
 ghost use Rattle.std.specs.Box.{boxed_slice_items};
 ghost use Rattle.evm_lines.specs.declared.TheConstants.{LINES};
 ghost use Rattle.trace_command.specs.Flows.{ended_flows, flows_in, handed_over, kept_track, line_flows, owner_flows};
-ghost use Rattle.trace_command.specs.Instants.{event_instants, instants_of, instants_in, is_told, is_woken, line_instants};
+ghost use Rattle.trace_command.specs.Instants.{event_instants, instants_of, instants_in, line_instants};
 
+use crate::interrupts::{LineEvent, Moment, Span, count_ticks, ends_wait, interrupt};
 use crate::naming::{Labelled, is_labelled, labelled_by, name_processors, name_task, name_tasks};
 use crate::noting::note;
 use crate::showing::{end_processors, end_tasks, show};
@@ -24,76 +24,25 @@ use trace_records::{Change, Detail, Flow, InterruptPassage, Track};
 /// An entry for each line of each processor.
 const ENTRIES: usize = PROCESSOR_LIMIT * LINE_COUNT;
 
-// Whether an event ends a wait.
-fn ends_wait(marks: &[Mark]) -> bool
-    ensures { result ≡ list_any is_woken marks.now }
-{
-    marks.iter().any(|mark| is_woken(mark))
-}
-
-fn is_woken(mark: &Mark) -> bool
-    ensures { result ≡ is_woken mark.now }
-{
-    match mark {
-        Mark::Woken { .. } => true,
-        _ => false,
-    }
-}
-
-// Whether a line is told: that of the tick is where the event ends a wait.
-fn is_told(wakes: bool, line: u8) -> bool
-    ensures { result ≡ is_told wakes line }
-{
-    if line == 0 { wakes } else { true }
-}
-
-#[tactic(auto, using(crate::proofs::Told::told))]
-fn interrupt(
-    list: &mut Vec<Change>,
-    wakes: bool,
-    passage: InterruptPassage,
-    place: (u8, u8),
-    times: u64,
-    at: u64,
-) -> Result<(), Refused>
-    ensures { OnOk result (instants_in list.new.items ≡ instants_in list.old.items ++ line_instants wakes passage place.0 place.1 times at) }
-{
-    let (cpu, line) = place;
-    if !is_told(wakes, line) {
-        return Ok(());
-    }
-    note(
-        list,
-        Track::Lines(cpu),
-        at,
-        Detail::Interrupt(passage, line, times),
-    )
-}
-
-// How many ticks there were.
-#[tactic(auto, using(crate::proofs::Told::told))]
-fn count_ticks(list: &mut Vec<Change>, observation: &Observation, at: u64) -> Result<(), Refused>
-    ensures { OnOk result (instants_in list.new.items ≡ instants_in list.old.items) }
-{
-    note(
-        list,
-        Track::OutOfBand(0),
-        at,
-        Detail::Ticks(observation.ticks),
-    )
-}
-
-/// The time of an event, and that behind it.
-#[derive(Clone, Copy)]
-pub(crate) struct Span {
-    pub(crate) at: u64,
-    pub(crate) behind: u64,
-}
-
 fn entry_of(cpu: u8, line: u8) -> usize
     ensures { result ≡ cpu * LINES + line }
 {
     usize::from(cpu) * usize::from(LINES) + usize::from(line)
+}
+
+/// A track at a time.
+#[derive(Clone, Copy)]
+struct Point {
+    track: Track,
+    at: u64,
+}
+
+/// A task hands a mutex over to another.
+#[derive(Clone, Copy)]
+struct Handover {
+    flow: Flow,
+    from: u8,
+    to: u8,
 }
 
 /// What is kept from event to event: the arrows that have begun, and what the processors do.
@@ -188,19 +137,19 @@ impl Changes {
     fn end_arrow(
         &mut self,
         list: &mut Vec<Change>,
-        track: Track,
         entry: usize,
         line: u8,
-        at: u64,
+        point: Point,
     ) -> Result<(), Refused>
         ensures instants { OnOk result (instants_in list.new.items ≡ instants_in list.old.items) }
-        ensures flows { OnOk result (flows_in list.new.items ≡ flows_in list.old.items ++ ended_flows track at (Flow.Line line) (option_flatten (slice_get (boxed_slice_items self.old.begun) entry))) }
+        ensures flows { OnOk result (flows_in list.new.items ≡ flows_in list.old.items ++ ended_flows point.track point.at (Flow.Line line) (option_flatten (slice_get (boxed_slice_items self.old.begun) entry))) }
     {
         match self.begun_at(entry) {
             None => Ok(()),
             Some(id) => {
                 self.set_begun(entry, None);
-                note(list, track, at, Detail::FlowEnd(Flow::Line(line), id))
+                let end = Detail::FlowEnd(Flow::Line(line), id);
+                note(list, point.track, point.at, end)
             }
         }
     }
@@ -210,34 +159,32 @@ impl Changes {
     fn hand_over(
         &mut self,
         list: &mut Vec<Change>,
-        flow: Flow,
-        from: u8,
-        to: u8,
+        handover: Handover,
         at: Span,
     ) -> Result<(), Refused>
         ensures instants { OnOk result (instants_in list.new.items ≡ instants_in list.old.items) }
-        ensures flows { OnOk result (flows_in list.new.items ≡ flows_in list.old.items ++ handed_over flow self.old.next from to at.at at.behind) }
+        ensures flows { OnOk result (flows_in list.new.items ≡ flows_in list.old.items ++ handed_over handover.flow self.old.next handover.from handover.to at.at at.behind) }
     {
+        let Handover { flow, from, to } = handover;
         let id = self.arrow();
         note(list, Track::Task(from), at.at, Detail::FlowStart(flow, id))?;
         note(list, Track::Task(to), at.behind, Detail::FlowEnd(flow, id))
     }
 
-    // Tells that a mutex has another owner.
+    // Tells that a mutex has another owner: the second, where the first had it.
     #[tactic(auto, using(crate::proofs::Told::told))]
     fn owner(
         &mut self,
         list: &mut Vec<Change>,
         flow: Flow,
-        from: Option<u8>,
-        to: Option<u8>,
+        owners: (Option<u8>, Option<u8>),
         at: Span,
     ) -> Result<(), Refused>
         ensures instants { OnOk result (instants_in list.new.items ≡ instants_in list.old.items) }
-        ensures flows { OnOk result (flows_in list.new.items ≡ flows_in list.old.items ++ owner_flows flow self.old.next from to at.at at.behind) }
+        ensures flows { OnOk result (flows_in list.new.items ≡ flows_in list.old.items ++ owner_flows flow self.old.next owners.0 owners.1 at.at at.behind) }
     {
-        match (from, to) {
-            (Some(from), Some(to)) => self.hand_over(list, flow, from, to, at),
+        match owners {
+            (Some(from), Some(to)) => self.hand_over(list, Handover { flow, from, to }, at),
             _ => Ok(()),
         }
     }
@@ -247,16 +194,13 @@ impl Changes {
     fn raised(
         &mut self,
         list: &mut Vec<Change>,
-        wakes: bool,
-        place: (u8, u8),
-        times: u64,
-        at: u64,
+        event: LineEvent,
+        moment: Moment,
     ) -> Result<(), Refused>
-        ensures { OnOk result (instants_in list.new.items ≡ instants_in list.old.items ++ line_instants wakes InterruptPassage.Raised place.0 place.1 times at) }
+        ensures { OnOk result (instants_in list.new.items ≡ instants_in list.old.items ++ line_instants moment.wakes InterruptPassage.Raised event.cpu event.line event.times moment.span.at) }
     {
-        let (cpu, line) = place;
-        interrupt(list, wakes, InterruptPassage::Raised, place, times, at)?;
-        self.begin_arrow(list, cpu, line, at)
+        interrupt(list, InterruptPassage::Raised, event, moment)?;
+        self.begin_arrow(list, event.cpu, event.line, moment.span.at)
     }
 
     // Tells that a line was played, and ends its arrow.
@@ -265,17 +209,18 @@ impl Changes {
         &mut self,
         list: &mut Vec<Change>,
         observation: &Observation,
-        wakes: bool,
-        place: (u8, u8),
-        times: u64,
-        at: Span,
+        event: LineEvent,
+        moment: Moment,
     ) -> Result<(), Refused>
-        ensures { OnOk result (instants_in list.new.items ≡ instants_in list.old.items ++ line_instants wakes InterruptPassage.Played place.0 place.1 times at.at) }
+        ensures { OnOk result (instants_in list.new.items ≡ instants_in list.old.items ++ line_instants moment.wakes InterruptPassage.Played event.cpu event.line event.times moment.span.at) }
     {
-        let (cpu, line) = place;
-        interrupt(list, wakes, InterruptPassage::Played, place, times, at.at)?;
-        let track = current_track(observation, cpu);
-        self.end_arrow(list, track, entry_of(cpu, line), line, at.behind)
+        interrupt(list, InterruptPassage::Played, event, moment)?;
+        let LineEvent { cpu, line, .. } = event;
+        let point = Point {
+            track: current_track(observation, cpu),
+            at: moment.span.behind,
+        };
+        self.end_arrow(list, entry_of(cpu, line), line, point)
     }
 
     #[tactic(auto, using(crate::proofs::Told::told))]
@@ -283,39 +228,38 @@ impl Changes {
         &mut self,
         list: &mut Vec<Change>,
         observation: &Observation,
-        wakes: bool,
         mark: &Mark,
-        at: Span,
+        moment: Moment,
     ) -> Result<(), Refused>
-        ensures { OnOk result (instants_in list.new.items ≡ instants_in list.old.items ++ instants_of wakes at.at mark.now) }
+        ensures { OnOk result (instants_in list.new.items ≡ instants_in list.old.items ++ instants_of moment.wakes moment.span.at mark.now) }
     {
-        match mark {
+        let at = moment.span;
+        match *mark {
             Mark::Raised { cpu, line, times } => {
-                self.raised(list, wakes, (*cpu, *line), *times, at.at)
+                self.raised(list, LineEvent { cpu, line, times }, moment)
             }
             Mark::Received { cpu, line, times } => {
-                let place = (*cpu, *line);
                 let passage = InterruptPassage::Received;
-                interrupt(list, wakes, passage, place, *times, at.at)
+                interrupt(list, passage, LineEvent { cpu, line, times }, moment)
             }
             Mark::Played {
                 cpu,
                 line,
                 times,
                 ..
-            } => { self.played(list, observation, wakes, (*cpu, *line), *times, at) }
+            } => { self.played(list, observation, LineEvent { cpu, line, times }, moment) }
             Mark::Owner { mutex, from, to } => {
-                self.owner(list, Flow::Mutex(*mutex), *from, *to, at)
+                self.owner(list, Flow::Mutex(mutex), (from, to), at)
             }
             Mark::Created { task } => {
-                let labelled = is_labelled(&self.labelled, *task);
-                name_task(list, observation, *task, at.behind, labelled)
+                let labelled = is_labelled(&self.labelled, task);
+                name_task(list, observation, task, at.behind, labelled)
             }
             Mark::Rank { task, to, .. } => {
-                note(list, Track::Task(*task), at.behind, Detail::Rank(*to))
+                note(list, Track::Task(task), at.behind, Detail::Rank(to))
             }
             Mark::Migrates { task, cpu } => {
-                note(list, Track::Task(*task), at.at, Detail::Moves(*cpu))
+                note(list, Track::Task(task), at.at, Detail::Moves(cpu))
             }
             Mark::Ticked { .. } => count_ticks(list, observation, at.behind),
             Mark::Runs { .. }
@@ -337,14 +281,13 @@ impl Changes {
         &mut self,
         list: &mut Vec<Change>,
         observation: &Observation,
-        wakes: bool,
         marks: &[Mark],
-        at: Span,
+        moment: Moment,
     ) -> Result<(), Refused>
-        ensures { OnOk result (instants_in list.new.items ≡ instants_in list.old.items ++ flat_map (instants_of wakes at.at) marks.now) }
+        ensures { OnOk result (instants_in list.new.items ≡ instants_in list.old.items ++ flat_map (instants_of moment.wakes moment.span.at) marks.now) }
     {
         for mark in marks {
-            self.mark(list, observation, wakes, mark, at)?;
+            self.mark(list, observation, mark, moment)?;
         }
         Ok(())
     }
@@ -385,7 +328,8 @@ impl Changes {
     ) -> Result<(), Refused>
         ensures { OnOk result (instants_in list.new.items ≡ instants_in list.old.items ++ event_instants at.at marks.now) }
     {
-        self.marks(list, observation, ends_wait(marks), marks, at)?;
+        let wakes = ends_wait(marks);
+        self.marks(list, observation, marks, Moment { wakes, span: at })?;
         // without a mark no track shows anything else
         if marks.is_empty() {
             return Ok(());

@@ -1,16 +1,15 @@
 //! The word `trace`, from what stands behind it to the exit status.
 
-use crate::tracing::{TraceEnd, trace_journal};
+use crate::tracing::{TraceEnd, TracedRun, trace_journal};
 use crate::words::{Job, job_of};
 use clap::ArgMatches;
-use evm_devs::{AnyDevice, program_devices};
+use evm_devs::program_devices;
 use evm_host::{
-    Devices, Ending, FAILED, Input, Message, Sink, System, USAGE, Verdict, World, ended,
-    ended_with, failed_write_message, image_at, memory_refused, names_at, not_created, report,
-    text_at,
+    Ending, FAILED, Input, Message, Sink, System, USAGE, Verdict, World, ended, ended_with,
+    failed_write_message, image_at, memory_refused, names_at, not_created, report, text_at,
 };
 use evm_ram::Image;
-use evm_room::Refused;
+use evm_room::NoMemory;
 use evm_streams::Meter;
 use run_walk::{Names, RunNames};
 use std::alloc::Global;
@@ -23,13 +22,12 @@ const STANDARD_OUTPUT: &str = "-";
 
 // Reports how a trace ended, and returns the status.
 fn traced<E: Sink>(
-    image: &Image,
+    run: &TracedRun<'_>,
     job: Job<'_>,
-    journal: &str,
     outcome: Result<(), TraceEnd>,
     errors: &mut E,
 ) -> u8 {
-    let input = Input::Lines(Some(image), journal.as_bytes());
+    let input = Input::Lines(Some(run.image), run.journal.as_bytes());
     match outcome {
         Ok(()) => 0,
         Err(TraceEnd::AtFault(fault)) => {
@@ -54,83 +52,103 @@ fn out_name(out: &str) -> &str {
     }
 }
 
-/// The image and its symbols.
-#[derive(Clone, Copy)]
-struct Program<'a> {
-    image: &'a Image,
-    names: &'a Names,
+/// What the files of a job hold: the image, its names, and the journal.
+#[derive(Drop)]
+struct Source {
+    image: Image,
+    names: Names,
+    journal: String,
 }
 
-// The names of the tasks and objects of a journal's run; none without memory for the devices.
-fn run_names(alloc: Global, program: Program<'_>, journal: &str) -> Result<RunNames, Refused> {
-    match program_devices(alloc) {
-        Ok(devices) => {
-            RunNames::of_journal(alloc, program.image, devices, journal, program.names)
-        }
-        Err(_) => Ok(RunNames::new(alloc)),
+impl Source {
+    // Reads the files of a job, or returns the status. A program that ran has the journal.
+    fn read<S: System>(
+        alloc: Global,
+        job: Job<'_>,
+        ran: Option<String>,
+        world: &mut World<S>,
+    ) -> Result<Source, u8> {
+        let image = image_at(alloc, job.image, world)?;
+        let names = names_at(alloc, PROGRAM, job.image, job.map, world)?;
+        let journal = match ran {
+            Some(journal) => journal,
+            None => text_at(alloc, job.journal, world)?,
+        };
+        Ok(Source {
+            image,
+            names,
+            journal,
+        })
+    }
+
+    // The names of the tasks and objects of the journal's run.
+    fn run_names(&self, alloc: Global) -> Result<RunNames, NoMemory> {
+        let devices = program_devices(alloc)?;
+        RunNames::of_journal(
+            alloc,
+            &self.image,
+            devices,
+            self.journal.as_str(),
+            &self.names,
+        )
     }
 }
 
-// Traces a journal that was read, to OUT.
+// Traces a run to OUT.
 fn trace_to_out<S: System, M: Meter>(
     alloc: Global,
-    devices: Devices<AnyDevice>,
-    program: Program<'_>,
+    run: &TracedRun<'_>,
     job: Job<'_>,
-    journal: &str,
     meter: &mut M,
     world: &mut World<S>,
 ) -> u8 {
-    let Ok(names) = run_names(alloc, program, journal) else {
+    let Ok(devices) = program_devices(alloc) else {
         return memory_refused(PROGRAM, world);
     };
-    let image = program.image;
-    let symbols = &program.names.symbols;
     if job.out == STANDARD_OUTPUT {
-        let out = &mut world.output;
-        let outcome = trace_journal(
-            alloc, image, symbols, &names, devices, journal, job.clock, meter, out,
-        );
-        return traced(image, job, journal, outcome, &mut world.errors);
+        let outcome = trace_journal(alloc, run, devices, meter, &mut world.output);
+        return traced(run, job, outcome, &mut world.errors);
     }
     match world.files.create(job.out) {
         Err(fault) => not_created(job.out, fault, &mut world.errors),
         Ok(mut file) => {
-            let outcome = trace_journal(
-                alloc, image, symbols, &names, devices, journal, job.clock, meter, &mut file,
-            );
-            traced(image, job, journal, outcome, &mut world.errors)
+            let outcome = trace_journal(alloc, run, devices, meter, &mut file);
+            traced(run, job, outcome, &mut world.errors)
         }
     }
 }
 
 // Traces the journal of a file on the image of another.
-fn trace_file<S: System, M: Meter>(
+fn trace_source<S: System, M: Meter>(
     alloc: Global,
-    devices: Devices<AnyDevice>,
+    source: &Source,
+    job: Job<'_>,
+    meter: &mut M,
+    world: &mut World<S>,
+) -> u8 {
+    let Ok(names) = source.run_names(alloc) else {
+        return memory_refused(PROGRAM, world);
+    };
+    let run = TracedRun {
+        image: &source.image,
+        symbols: &source.names.symbols,
+        names: &names,
+        journal: source.journal.as_str(),
+        clock: job.clock,
+    };
+    trace_to_out(alloc, &run, job, meter, world)
+}
+
+// Does a job, with the journal of a program that ran, if one did.
+fn trace_job<S: System, M: Meter>(
+    alloc: Global,
     job: Job<'_>,
     ran: Option<String>,
     meter: &mut M,
     world: &mut World<S>,
 ) -> u8 {
-    let image = match image_at(alloc, job.image, world) {
-        Ok(image) => image,
-        Err(status) => return status,
-    };
-    let names = match names_at(alloc, PROGRAM, job.image, job.map, world) {
-        Ok(names) => names,
-        Err(status) => return status,
-    };
-    let program = Program {
-        image: &image,
-        names: &names,
-    };
-    let read = match ran {
-        Some(journal) => Ok(journal),
-        None => text_at(alloc, job.journal, world),
-    };
-    match read {
-        Ok(journal) => trace_to_out(alloc, devices, program, job, journal.as_str(), meter, world),
+    match Source::read(alloc, job, ran, world) {
+        Ok(source) => trace_source(alloc, &source, job, meter, world),
         Err(status) => status,
     }
 }
@@ -143,18 +161,17 @@ pub fn traces_program(words: &ArgMatches<'_>) -> bool {
     }
 }
 
-/// `trace`: writes the run of a journal as a trace, with devices in the machine, and returns the exit status. The journal's text is
+/// `trace`: writes the run of a journal as a trace, with a program's devices in the machine, and returns the exit status. The journal's text is
 /// `ran`, if there is one, or else in the file that the words name.
 pub fn trace<S: System, M: Meter>(
     alloc: Global,
     words: &ArgMatches<'_>,
     ran: Option<String>,
-    devices: Devices<AnyDevice>,
     meter: &mut M,
     world: &mut World<S>,
 ) -> u8 {
     match job_of(words) {
-        Some(job) => trace_file(alloc, devices, job, ran, meter, world),
+        Some(job) => trace_job(alloc, job, ran, meter, world),
         None => {
             let message = Message::Plain("it takes IMAGE JOURNAL OUT, or --run IMAGE OUT");
             report(PROGRAM, message, &mut world.errors);

@@ -4,6 +4,7 @@
 mod changes;
 mod clock;
 mod command;
+mod interrupts;
 mod labels;
 mod naming;
 mod noting;
@@ -15,4 +16,4 @@ mod words;
 
 pub use clock::Clock;
 pub use command::{PROGRAM, trace, traces_program};
-pub use tracing::{TraceEnd, trace_journal};
+pub use tracing::{TraceEnd, TracedRun, trace_journal};

@@ -12,16 +12,35 @@ use trace_records::{CodePlace, Doing};
 /// How many bytes behind its ECALL a task is that waits.
 const CALL: u64 = 4;
 
-// What a task does, and where: `back` bytes in front of its pc.
+/// What a task does, and where: `back` bytes in front of its pc.
+#[derive(Clone, Copy)]
+struct Spot {
+    doing: Doing,
+    back: u64,
+}
+
+// A task does this at its pc.
+fn at_pc(doing: Doing) -> Spot
+    ensures { result ≡ record { doing = doing; back = 0 } }
+{
+    Spot { doing, back: 0 }
+}
+
+// A task does this at the ECALL that it has made.
+fn at_call(doing: Doing) -> Spot
+    ensures { result ≡ record { doing = doing; back = 4 } }
+{
+    Spot { doing, back: CALL }
+}
+
 fn place(
     list: &mut Vec<CodePlace>,
     machine: &Machine<AnyDevice>,
     task: u8,
     at: u64,
-    doing: Doing,
-    back: u64,
+    spot: Spot,
 ) -> Result<(), Refused>
-    ensures { OnOk result (list.new.items ≡ list.old.items ++ spot_of task at doing back (slice_get machine.now.board.parts.harts task)) }
+    ensures { OnOk result (list.new.items ≡ list.old.items ++ spot_of task at spot.doing spot.back (slice_get machine.now.board.parts.harts task)) }
 {
     match machine.hart(task) {
         None => Ok(()),
@@ -30,8 +49,8 @@ fn place(
             list.push_reserved(CodePlace {
                 task,
                 at,
-                doing,
-                address: hart.pc.saturating_sub(back),
+                doing: spot.doing,
+                address: hart.pc.saturating_sub(spot.back),
             });
             Ok(())
         }
@@ -49,7 +68,7 @@ fn place_owner(
 {
     match owner {
         None => Ok(()),
-        Some(task) => place(list, machine, task, at, Doing::Locks(mutex), CALL),
+        Some(task) => place(list, machine, task, at, at_call(Doing::Locks(mutex))),
     }
 }
 
@@ -62,9 +81,9 @@ fn place_mark(
     ensures { OnOk result (list.new.items ≡ list.old.items ++ spots_of machine.now.board.parts.harts at mark.now) }
 {
     match mark {
-        Mark::Created { task } => place(list, machine, *task, at, Doing::Begins, 0),
-        Mark::Runs { task, .. } => place(list, machine, *task, at, Doing::Runs, 0),
-        Mark::Waits { task, .. } => place(list, machine, *task, at, Doing::Waits, CALL),
+        Mark::Created { task } => place(list, machine, *task, at, at_pc(Doing::Begins)),
+        Mark::Runs { task, .. } => place(list, machine, *task, at, at_pc(Doing::Runs)),
+        Mark::Waits { task, .. } => place(list, machine, *task, at, at_call(Doing::Waits)),
         Mark::Owner { mutex, to, .. } => place_owner(list, machine, *mutex, *to, at),
         Mark::Raised { .. } => Ok(()),
         Mark::Received { .. } => Ok(()),
@@ -105,7 +124,7 @@ pub(crate) fn place_tasks(
     machine: &Machine<AnyDevice>,
 ) -> Result<(), Refused> {
     for task in 0..machine.task_count() {
-        place(list, machine, task, 0, Doing::Begins, 0)?;
+        place(list, machine, task, 0, at_pc(Doing::Begins))?;
     }
     Ok(())
 }

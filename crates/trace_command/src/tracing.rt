@@ -6,8 +6,9 @@ ghost use Rattle.trace_command.specs.Times.{time_behind};
 ghost use Rattle.trace_command.specs.Tellings.{GoesOn, IsTraceOf, IsTraceOfText, TellsCall, TellsOn};
 ghost use Rattle.trace_records.specs.Placed.{IsPlacedSomewhere};
 
-use crate::changes::{Changes, Span};
+use crate::changes::Changes;
 use crate::clock::Clock;
+use crate::interrupts::Span;
 use crate::labels::{label_marks, label_tasks};
 use crate::places::{place_marks, place_tasks};
 use evm_devs::AnyDevice;
@@ -31,6 +32,31 @@ pub enum TraceEnd {
     NoMemory,
     /// A write failed.
     WriteFailed(WriteFault),
+}
+
+impl From<WalkStop> for TraceEnd {
+    fn from(stop: WalkStop) -> TraceEnd {
+        match stop {
+            WalkStop::AtFault(fault) => TraceEnd::AtFault(fault),
+            WalkStop::NoMemory => TraceEnd::NoMemory,
+        }
+    }
+}
+
+impl From<Refused> for TraceEnd {
+    fn from(_: Refused) -> TraceEnd {
+        TraceEnd::NoMemory
+    }
+}
+
+/// A run that is to be traced: the program, the names in labels, the journal's text, and what the clock counts.
+#[derive(Clone, Copy)]
+pub struct TracedRun<'a> {
+    pub image: &'a Image,
+    pub symbols: &'a Symbols,
+    pub names: &'a RunNames,
+    pub journal: &'a str,
+    pub clock: Clock,
 }
 
 /// How far a run was told.
@@ -222,19 +248,18 @@ fn end_of(stop: RunStop, fault: Option<InputFault>) -> TraceEnd {
     }
 }
 
+// Traces a run whose journal is walked.
 fn trace_walk<W: Sink, M: Meter>(
     alloc: Global,
+    run: &TracedRun<'_>,
     walk: Walk<AnyDevice>,
-    changes: Changes,
-    symbols: &Symbols,
-    names: &RunNames,
-    clock: Clock,
     meter: &mut M,
     sink: &mut W,
 ) -> Result<(), TraceEnd>
-    ensures trace { OnOk result (IsTraceOf clock walk W.takes sink.old symbols.now.symbols sink.new) }
-    ensures placed { OnOk result (IsPlacedSomewhere W.takes sink.old symbols.now.symbols sink.new) }
+    ensures trace { OnOk result (IsTraceOf run.now.clock walk W.takes sink.old run.now.symbols.now.symbols sink.new) }
+    ensures placed { OnOk result (IsPlacedSomewhere W.takes sink.old run.now.symbols.now.symbols sink.new) }
 {
+    let changes = Changes::new(alloc, run.names)?;
     // The begin, the end, and that there is no more are a call each.
     let calls = walk.event_count().saturating_add(4);
     let mut telling = Telling {
@@ -243,16 +268,16 @@ fn trace_walk<W: Sink, M: Meter>(
         changes,
         marks: Vec::new(alloc),
         places: Vec::new(alloc),
-        placed: !symbols.symbols().is_empty(),
-        names,
+        placed: !run.symbols.symbols().is_empty(),
+        names: run.names,
         labels: Vec::new(alloc),
-        clock,
+        clock: run.clock,
         at: 0,
         phase: Phase::Begins,
         fault: None,
         meter,
     };
-    let outcome = trace_places(alloc, &mut telling, calls, symbols, sink);
+    let outcome = trace_places(alloc, &mut telling, calls, run.symbols, sink);
     telling.meter.ended();
     match outcome {
         Ok(()) => Ok(()),
@@ -260,7 +285,7 @@ fn trace_walk<W: Sink, M: Meter>(
     }
 }
 
-/// Traces the run of a journal, on a machine with the devices and the image, to a sink, with labels by these names and places by the symbols. The
+/// Traces the run of a journal, on a machine with the devices and its image, to a sink, with labels by its names and places by its symbols. The
 /// meter gets the events.
 ///
 /// # Errors
@@ -268,25 +293,14 @@ fn trace_walk<W: Sink, M: Meter>(
 /// The first fault, as a replay reports it; memory was refused; or a write failed.
 pub fn trace_journal<W: Sink, M: Meter>(
     alloc: Global,
-    image: &Image,
-    symbols: &Symbols,
-    names: &RunNames,
+    run: &TracedRun<'_>,
     devices: Devices<AnyDevice>,
-    journal: &str,
-    clock: Clock,
     meter: &mut M,
     sink: &mut W,
 ) -> Result<(), TraceEnd>
-    ensures trace { OnOk result (IsTraceOfText clock devices image.now journal.now W.takes sink.old symbols.now.symbols sink.new) }
-    ensures placed { OnOk result (IsPlacedSomewhere W.takes sink.old symbols.now.symbols sink.new) }
+    ensures trace { OnOk result (IsTraceOfText run.now.clock devices run.now.image.now run.now.journal.now W.takes sink.old run.now.symbols.now.symbols sink.new) }
+    ensures placed { OnOk result (IsPlacedSomewhere W.takes sink.old run.now.symbols.now.symbols sink.new) }
 {
-    let walk = match Walk::start(alloc, image, devices, journal) {
-        Ok(walk) => walk,
-        Err(WalkStop::AtFault(fault)) => return Err(TraceEnd::AtFault(fault)),
-        Err(WalkStop::NoMemory) => return Err(TraceEnd::NoMemory),
-    };
-    match Changes::new(alloc, names) {
-        Ok(changes) => trace_walk(alloc, walk, changes, symbols, names, clock, meter, sink),
-        Err(_) => Err(TraceEnd::NoMemory),
-    }
+    let walk = Walk::start(alloc, run.image, devices, run.journal)?;
+    trace_walk(alloc, run, walk, meter, sink)
 }

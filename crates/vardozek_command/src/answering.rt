@@ -2,7 +2,6 @@
 
 use crate::parsing::parse;
 use clap::ArgMatches;
-use evm_devs::program_devices;
 use evm_host::{
     System, USAGE, World, host_world, image_at, memory_refused, names_at, no_words, refuse,
     words_of,
@@ -54,9 +53,6 @@ fn show_run<S: System>(
     world: &mut World<S>,
 ) -> u8 {
     let alloc = rt.alloc();
-    let Ok(devices) = program_devices(alloc) else {
-        return memory_refused(PROGRAM, world);
-    };
     let is_asked = if name == "view" {
         views_program(words)
     } else {
@@ -68,10 +64,10 @@ fn show_run<S: System>(
     };
     if name == "view" {
         let mut progress = Progress::new(rt, "vardozek view: event");
-        return view(alloc, words, journal, devices, &mut progress, world);
+        return view(alloc, words, journal, &mut progress, world);
     }
     let mut progress = Progress::new(rt, "vardozek trace: event");
-    trace(alloc, words, journal, devices, &mut progress, world)
+    trace(alloc, words, journal, &mut progress, world)
 }
 
 // `gdb`, which a thread hears.

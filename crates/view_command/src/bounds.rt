@@ -94,9 +94,7 @@ pub(crate) fn window_of(
     if let (Bound::Event(from), Bound::Event(to)) = (bounds.from, bounds.to) {
         return Ok(Some(Window { from, to }));
     }
-    let Ok(devices) = program_devices(alloc) else {
-        return Err(ViewEnd::NoMemory);
-    };
+    let devices = program_devices(alloc)?;
     let mut walk = Walk::start(alloc, image, devices, journal)?;
     window_in(alloc, &mut walk, bounds, naming)
 }

@@ -8,7 +8,7 @@ use crate::reports::{Files, PROGRAM, STANDARD_OUTPUT, stopped};
 use crate::showing::{Input, show_run};
 use crate::telling::{Sides, alike_text, boots_text, parting_text};
 use evm_devs::AnyDevice;
-use evm_host::{Devices, Ending, System, World, ended, text_at, write_all};
+use evm_host::{Devices, Ending, System, World, ended, memory_refused, text_at, write_all};
 use evm_room::Refused;
 use evm_streams::Meter;
 use std::alloc::Global;
@@ -29,13 +29,12 @@ type Read = (Boot, Journal);
 
 // The boot numbers and the events of a journal's text, or the status.
 fn history<S: System>(
-    alloc: Global,
     input: &Input<'_>,
     name: &str,
     text: &str,
     world: &mut World<S>,
 ) -> Result<Read, u8> {
-    match read_history(alloc, text) {
+    match read_history(input.alloc, text) {
         Ok(read) => Ok(read),
         Err(fault) => {
             let end = match fault.kind {
@@ -80,9 +79,16 @@ fn outcome_text(alloc: Global, names: Sides<'_>, outcome: &Outcome) -> Result<St
     }
 }
 
-// Writes where they part; returns 0, or the status of a failure.
-fn tell<S: System>(alloc: Global, names: Sides<'_>, outcome: &Outcome, world: &mut World<S>) -> u8 {
-    let Ok(text) = outcome_text(alloc, names, outcome) else {
+// Writes where they part, unless a page says it or the picture is written there; returns 0, or the status of a failure.
+fn tell<S: System>(input: &Input<'_>, other: &str, outcome: &Outcome, world: &mut World<S>) -> u8 {
+    if !input.job.compares || input.job.out == Some(STANDARD_OUTPUT) {
+        return 0;
+    }
+    let names = Sides {
+        journal: input.job.journal,
+        other,
+    };
+    let Ok(text) = outcome_text(input.alloc, names, outcome) else {
         return ended(PROGRAM, &Ending::NoMemory, &mut world.errors);
     };
     match write_all(&mut world.output, text.as_bytes()) {
@@ -91,9 +97,20 @@ fn tell<S: System>(alloc: Global, names: Sides<'_>, outcome: &Outcome, world: &m
     }
 }
 
+// Compares the journal with the text of another file, or returns the status.
+fn outcome_of<S: System>(
+    input: &Input<'_>,
+    other: &str,
+    text: &str,
+    world: &mut World<S>,
+) -> Result<Outcome, u8> {
+    let one = history(input, input.job.journal, input.journal, world)?;
+    let two = history(input, other, text, world)?;
+    Ok(compared(&one, &two))
+}
+
 // Shows the run of the first, where a picture or characters are asked for; a page shows both.
 fn show<S: System, M: Meter>(
-    alloc: Global,
     devices: Devices<AnyDevice>,
     input: &Input<'_>,
     other: Side<'_>,
@@ -104,35 +121,13 @@ fn show<S: System, M: Meter>(
         return 0;
     }
     if input.job.is_page() {
-        return show_page(alloc, devices, input, Some(other), meter, world);
+        return show_page(devices, input, Some(other), meter, world);
     }
-    show_run(alloc, devices, input, other.parts, meter, world)
+    show_run(devices, input, other.parts, meter, world)
 }
 
-// Compares what was read of the two, and shows it.
-fn diff_read<S: System, M: Meter>(
-    alloc: Global,
-    devices: Devices<AnyDevice>,
-    input: &Input<'_>,
-    other: Side<'_>,
-    outcome: &Outcome,
-    meter: &mut M,
-    world: &mut World<S>,
-) -> u8 {
-    let is_silent = !input.job.compares || input.job.out == Some(STANDARD_OUTPUT);
-    let told = if is_silent {
-        0
-    } else {
-        let names = Sides {
-            journal: input.job.journal,
-            other: other.name,
-        };
-        tell(alloc, names, outcome, world)
-    };
-    if told != 0 {
-        return told;
-    }
-    let shown = show(alloc, devices, input, other, meter, world);
+// The status of a run that was shown with this status, beside another that it may part from.
+fn status_of(input: &Input<'_>, outcome: &Outcome, shown: u8) -> u8 {
     match outcome {
         Outcome::Alike(_) => shown,
         _ if shown == 0 && input.job.compares => APART,
@@ -142,35 +137,33 @@ fn diff_read<S: System, M: Meter>(
 
 /// Compares the journal with that of another file.
 pub(crate) fn diff<S: System, M: Meter>(
-    alloc: Global,
     devices: Devices<AnyDevice>,
     input: &Input<'_>,
     other: &str,
     meter: &mut M,
     world: &mut World<S>,
 ) -> u8 {
-    let text = match text_at(alloc, other, world) {
+    let text = match text_at(input.alloc, other, world) {
         Ok(text) => text,
         Err(status) => return status,
     };
-    let one = match history(alloc, input, input.job.journal, input.journal, world) {
-        Ok(read) => read,
+    let outcome = match outcome_of(input, other, text.as_str(), world) {
+        Ok(outcome) => outcome,
         Err(status) => return status,
     };
-    let two = match history(alloc, input, other, text.as_str(), world) {
-        Ok(read) => read,
-        Err(status) => return status,
+    let Ok(names) = names_of(input.alloc, input.image, text.as_str(), input.naming.image) else {
+        return memory_refused(PROGRAM, world);
     };
-    let outcome = compared(&one, &two);
-    let names = match names_of(alloc, input.image, text.as_str(), input.naming.image) {
-        Ok(names) => names,
-        Err(_) => return ended(PROGRAM, &Ending::NoMemory, &mut world.errors),
-    };
-    let other = Side {
+    let told = tell(input, other, &outcome, world);
+    if told != 0 {
+        return told;
+    }
+    let side = Side {
         name: other,
         journal: text.as_str(),
         names: &names,
         parts: parts_of(&outcome),
     };
-    diff_read(alloc, devices, input, other, &outcome, meter, world)
+    let shown = show(devices, input, side, meter, world);
+    status_of(input, &outcome, shown)
 }

@@ -6,6 +6,7 @@ ghost use Rattle.view_command.specs.Viewing.{IsPictured, TellsRun};
 
 use evm_devs::AnyDevice;
 use evm_ram::Image;
+use evm_room::NoMemory;
 use evm_streams::{Meter, Sink, WriteFault, write_all};
 use std::alloc::Global;
 use view_picture::{
@@ -23,6 +24,12 @@ pub enum ViewEnd {
     WriteFailed(WriteFault),
 }
 
+impl From<NoMemory> for ViewEnd {
+    fn from(_: NoMemory) -> ViewEnd {
+        ViewEnd::NoMemory
+    }
+}
+
 impl From<WalkStop> for ViewEnd {
     fn from(stop: WalkStop) -> ViewEnd {
         match stop {
@@ -32,6 +39,14 @@ impl From<WalkStop> for ViewEnd {
     }
 }
 
+/// A window of a journal's run: the image, the journal's text, and the events.
+#[derive(Clone, Copy)]
+pub struct ViewedRun<'a> {
+    pub image: &'a Image,
+    pub journal: &'a str,
+    pub window: Window,
+}
+
 /// The timeline of a window of a journal's run, on a machine with the devices and the image.
 ///
 /// # Errors
@@ -39,16 +54,14 @@ impl From<WalkStop> for ViewEnd {
 /// The first fault, as a replay reports it; or memory was refused.
 pub fn timeline_of<M: Meter>(
     alloc: Global,
-    image: &Image,
+    run: &ViewedRun<'_>,
     devices: Devices<AnyDevice>,
-    journal: &str,
-    window: Window,
     meter: &mut M,
 ) -> Result<Timeline, ViewEnd>
-    ensures { IfOk result (TellsRun devices image.now journal.now window) }
+    ensures { IfOk result (TellsRun devices run.now.image.now run.now.journal.now run.now.window) }
 {
-    let mut walk = Walk::start(alloc, image, devices, journal)?;
-    let gathered = gather(alloc, &mut walk, window, meter);
+    let mut walk = Walk::start(alloc, run.image, devices, run.journal)?;
+    let gathered = gather(alloc, &mut walk, run.window, meter);
     meter.ended();
     let timeline = gathered?;
     Ok(timeline)

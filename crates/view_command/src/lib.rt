@@ -15,5 +15,5 @@ mod words;
 
 pub use command::{view, views_program};
 pub use comparing::{Parting, first_parting};
-pub use drawing::{ViewEnd, draw_to, timeline_of, write_to};
+pub use drawing::{ViewEnd, ViewedRun, draw_to, timeline_of, write_to};
 pub use reports::PROGRAM;

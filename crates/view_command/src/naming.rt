@@ -2,11 +2,11 @@
 
 use evm_devs::program_devices;
 use evm_ram::Image;
-use evm_room::Refused;
+use evm_room::NoMemory;
 use std::alloc::Global;
 use view_picture::{Names, RunNames};
 
-/// The names of the tasks and objects of a journal's run; none without memory for the devices.
+/// The names of the tasks and objects of a journal's run.
 ///
 /// # Errors
 ///
@@ -16,9 +16,7 @@ pub(crate) fn names_of(
     image: &Image,
     journal: &str,
     names: &Names,
-) -> Result<RunNames, Refused> {
-    match program_devices(alloc) {
-        Ok(devices) => RunNames::of_journal(alloc, image, devices, journal, names),
-        Err(_) => Ok(RunNames::new(alloc)),
-    }
+) -> Result<RunNames, NoMemory> {
+    let devices = program_devices(alloc)?;
+    RunNames::of_journal(alloc, image, devices, journal, names)
 }

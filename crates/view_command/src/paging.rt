@@ -11,7 +11,6 @@ use crate::showing::{Input, status};
 use evm_devs::{AnyDevice, program_devices};
 use evm_host::{Devices, Ending, Sink, System, World, ended, not_created};
 use evm_streams::Meter;
-use std::alloc::Global;
 use view_page::{About, ToldRun, page_head, push_journal, push_tail};
 use view_picture::RunNames;
 
@@ -30,7 +29,8 @@ pub(crate) struct Side<'a> {
 
 // What the page says of a run.
 fn run_of<'a>(input: &Input<'a>, side: Side<'a>) -> ToldRun<'a>
-    ensures { result.journal.now ≡ side.entry.journal.now }
+    ensures image { result.image.now ≡ input.now.image.now }
+    ensures journal { result.journal.now ≡ side.entry.journal.now }
 {
     let about = About {
         image: input.job.image,
@@ -43,6 +43,7 @@ fn run_of<'a>(input: &Input<'a>, side: Side<'a>) -> ToldRun<'a>
     };
     ToldRun {
         about,
+        image: input.image,
         journal: side.journal,
     }
 }
@@ -63,33 +64,26 @@ fn no_memory<E: Sink>(errors: &mut E) -> u8
     ended(PROGRAM, &Ending::NoMemory, errors)
 }
 
-// Appends the run of a journal, or returns the status.
-#[tactic(auto, using(crate::proofs::Statuses::never_zero))]
-fn tell<M: Meter, E: Sink>(
-    alloc: Global,
+// Appends the run of a journal.
+fn tell<M: Meter>(
     page: &mut String,
     devices: Devices<AnyDevice>,
     input: &Input<'_>,
     side: Side<'_>,
     meter: &mut M,
-    errors: &mut E,
-) -> Result<(), u8>
-    ensures adds { OnOk result (AddsRun devices input.now.image.now side.entry.journal.now (string_bytes page.old) (string_bytes page.new)) }
-    ensures status { IfErr result (λ status. status ≢ 0) }
+) -> Result<(), ViewEnd>
+    ensures { OnOk result (AddsRun devices input.now.image.now side.entry.journal.now (string_bytes page.old) (string_bytes page.new)) }
 {
     let run = run_of(input, side);
-    let outcome = push_journal(alloc, page, input.image, devices, &run, meter);
+    let outcome = push_journal(input.alloc, page, devices, &run, meter);
     meter.ended();
-    match outcome {
-        Ok(()) => Ok(()),
-        Err(stop) => Err(stopped(files_of(input, side), ViewEnd::from(stop), errors)),
-    }
+    outcome?;
+    Ok(())
 }
 
-// Appends the run of another journal, if there is one, on a machine with devices of its own.
-#[tactic(auto, using(crate::proofs::Pages::added, crate::proofs::Pages::nothing))]
+// Appends the run of another journal, if there is one, on a machine with devices of its own, or returns the status.
+#[tactic(auto, using(crate::proofs::Pages::added, crate::proofs::Pages::nothing, crate::proofs::Statuses::never_zero))]
 fn tell_other<M: Meter, E: Sink>(
-    alloc: Global,
     page: &mut String,
     input: &Input<'_>,
     other: Option<Side<'_>>,
@@ -102,16 +96,18 @@ fn tell_other<M: Meter, E: Sink>(
     let Some(other) = other else {
         return Ok(());
     };
-    match program_devices(alloc) {
-        Ok(devices) => tell(alloc, page, devices, input, other, meter, errors),
-        Err(_) => Err(no_memory(errors)),
+    let Ok(devices) = program_devices(input.alloc) else {
+        return Err(no_memory(errors));
+    };
+    match tell(page, devices, input, other, meter) {
+        Ok(()) => Ok(()),
+        Err(end) => Err(stopped(files_of(input, other), end, errors)),
     }
 }
 
 // What stands in a page behind its first run, or the status.
 #[tactic(auto, using(crate::proofs::Pages::both))]
 fn with_rest<M: Meter, E: Sink>(
-    alloc: Global,
     mut page: String,
     input: &Input<'_>,
     other: Option<Side<'_>>,
@@ -121,7 +117,7 @@ fn with_rest<M: Meter, E: Sink>(
     ensures adds { IfOk result (λ whole. (back : List ℕ) × (string_bytes whole ≡ string_bytes page ++ back)) }
     ensures status { IfErr result (λ status. status ≢ 0) }
 {
-    match tell_other(alloc, &mut page, input, other, meter, errors) {
+    match tell_other(&mut page, input, other, meter, errors) {
         Err(status) => Err(status),
         Ok(()) => match push_tail(&mut page) {
             Ok(()) => Ok(page),
@@ -131,8 +127,8 @@ fn with_rest<M: Meter, E: Sink>(
 }
 
 // The page of a run, and of another beside it, or the status.
+#[tactic(auto, using(crate::proofs::Statuses::never_zero))]
 fn page_of<M: Meter, E: Sink>(
-    alloc: Global,
     devices: Devices<AnyDevice>,
     input: &Input<'_>,
     sides: (Side<'_>, Option<Side<'_>>),
@@ -142,12 +138,12 @@ fn page_of<M: Meter, E: Sink>(
     ensures run { IfOk result (λ page. HoldsRun devices input.now.image.now sides.entry.0.journal.now (string_bytes page)) }
     ensures status { IfErr result (λ status. status ≢ 0) }
 {
-    let Ok(mut page) = page_head(alloc) else {
+    let Ok(mut page) = page_head(input.alloc) else {
         return Err(no_memory(errors));
     };
-    match tell(alloc, &mut page, devices, input, sides.0, meter, errors) {
-        Err(status) => Err(status),
-        Ok(()) => with_rest(alloc, page, input, sides.1, meter, errors),
+    match tell(&mut page, devices, input, sides.0, meter) {
+        Err(end) => Err(stopped(files_of(input, sides.0), end, errors)),
+        Ok(()) => with_rest(page, input, sides.1, meter, errors),
     }
 }
 
@@ -170,7 +166,6 @@ fn write_page<S: System>(files: Files<'_>, page: &str, world: &mut World<S>) -> 
 
 /// Replays the journal, and another if there is one, and writes the page of both.
 pub(crate) fn show_page<S: System, M: Meter>(
-    alloc: Global,
     devices: Devices<AnyDevice>,
     input: &Input<'_>,
     other: Option<Side<'_>>,
@@ -188,14 +183,7 @@ pub(crate) fn show_page<S: System, M: Meter>(
             None => None,
         },
     };
-    match page_of(
-        alloc,
-        devices,
-        input,
-        (side, other),
-        meter,
-        &mut world.errors,
-    ) {
+    match page_of(devices, input, (side, other), meter, &mut world.errors) {
         Ok(page) => write_page(files_of(input, side), page.as_str(), world),
         Err(status) => status,
     }

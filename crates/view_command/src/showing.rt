@@ -3,7 +3,7 @@
 ghost use Rattle.std.specs.Prelude.{◌≡◌, ◌≢◌, OnErr, false};
 ghost use Rattle.view_command.specs.Viewing.{DrawsRun, IsDrawn};
 
-use crate::drawing::{ViewEnd, draw_to, timeline_of, write_to};
+use crate::drawing::{ViewEnd, ViewedRun, draw_to, timeline_of, write_to};
 use crate::reports::{Files, STANDARD_OUTPUT, stopped};
 use crate::words::Job;
 use evm_devs::AnyDevice;
@@ -16,6 +16,7 @@ use view_picture::{Naming, Picture, Timeline, Window};
 /// What is read of the files of a job.
 #[derive(Clone, Copy)]
 pub(crate) struct Input<'a> {
+    pub(crate) alloc: Global,
     pub(crate) job: Job<'a>,
     pub(crate) image: &'a Image,
     pub(crate) naming: Naming<'a>,
@@ -60,7 +61,6 @@ fn draw<S: System>(
 
 // Shows a timeline: in characters, or as a picture.
 fn show_timeline<S: System>(
-    alloc: Global,
     input: &Input<'_>,
     files: Files<'_>,
     timeline: &Timeline,
@@ -76,15 +76,14 @@ fn show_timeline<S: System>(
         mutexes: input.job.mutexes,
     };
     if input.job.text {
-        let end = write_to(alloc, &picture, &mut world.output);
+        let end = write_to(input.alloc, &picture, &mut world.output);
         return status(files, end, &mut world.errors);
     }
-    draw(alloc, files, &picture, world)
+    draw(input.alloc, files, &picture, world)
 }
 
 /// Replays the journal, and shows its run: in characters, or as a picture. The event where it and another part is marked.
 pub(crate) fn show_run<S: System, M: Meter>(
-    alloc: Global,
     devices: Devices<AnyDevice>,
     input: &Input<'_>,
     parts: Option<u64>,
@@ -100,16 +99,13 @@ pub(crate) fn show_run<S: System, M: Meter>(
         journal: input.journal,
         out: job.out.unwrap_or(STANDARD_OUTPUT),
     };
-    let gathered = timeline_of(
-        alloc,
-        input.image,
-        devices,
-        input.journal,
-        input.window,
-        meter,
-    );
-    match gathered {
-        Ok(timeline) => show_timeline(alloc, input, files, &timeline, parts, world),
+    let run = ViewedRun {
+        image: input.image,
+        journal: input.journal,
+        window: input.window,
+    };
+    match timeline_of(input.alloc, &run, devices, meter) {
+        Ok(timeline) => show_timeline(input, files, &timeline, parts, world),
         Err(end) => stopped(files, end, &mut world.errors),
     }
 }

@@ -8,5 +8,5 @@ loop-mark-init c = sym (append-nil (instants_in c.args.list.now.items))
 
 pub loop-mark-preserved : goal.loop-mark-preserved
 loop-mark-preserved c =
-    told_more c.args.wakes c.args.at.at c.args.marks.now c.loop-mark.mark-index _ (instants_in c.args.list.now.items) (instants_in c.loop-mark.list.items) (instants_in c.mark.new.list.items)
+    told_more c.args.moment.wakes c.args.moment.span.at c.args.marks.now c.loop-mark.mark-index _ (instants_in c.args.list.now.items) (instants_in c.loop-mark.list.items) (instants_in c.mark.new.list.items)
     c.loop-mark-test.true c.loop-mark.invariant c.in_ok-mark.ensures

@@ -4,7 +4,7 @@ use Rattle.run_walk.specs.Walks.{IsMarked, IsNext, Walked}
 use Rattle.run_walk.specs.declared.item.Item.{Item}
 use Rattle.trace_command.proofs.Told.{no_instants, on-ok}
 use Rattle.trace_command.specs.Instants.{event_instants, instants_in}
-use Rattle.trace_command.specs.Tellings.{TellsInstants, time_of}
+use Rattle.trace_command.specs.Tellings.{TellsInstants, time_behind_next}
 use Rattle.trace_command.proofs.tracing.Telling.walk_on.Goals as goal
 
 pub returns-in-Ok-None-clause-tells : goal.returns-in-Ok-None-clause-tells
@@ -17,7 +17,7 @@ returns-in-Ok-None-clause-tells g c =
       next = c.in-Ok-None.ensures.next;
       marked = c.in-Ok-None.ensures.marks;
       instants = subst (λ item. TellsInstants item c.next.new.found.items c.args.self.now.at c.args.list.now.items) (sym c.in-Ok-None.field-0-is) none;
-      time = subst (λ (item : Option Item). c.args.self.now.at ≡ time_of c.args.self.now.clock item c.args.self.now.at) (sym c.in-Ok-None.field-0-is) refl;
+      time = subst (λ (item : Option Item). c.args.self.now.at ≡ time_behind_next c.args.self.now.clock item c.args.self.now.at) (sym c.in-Ok-None.field-0-is) refl;
     }
 
 pub returns-in-Ok-Some-clause-tells : goal.returns-in-Ok-Some-clause-tells
@@ -32,7 +32,7 @@ returns-in-Ok-Some-clause-tells g c =
       next = subst (λ (w : Walked). IsNext (2 ^ 64 - 1) c.args.self.now.walk c.in-Ok-Some.field-0 w) (sym c.item.ensures.walk) c.in-Ok-Some.ensures.next;
       marked = subst (λ (w : Walked). IsMarked c.in-Ok-Some.field-0 c.args.self.now.walk.machine w.machine c.next.new.found.items) (sym c.item.ensures.walk) c.in-Ok-Some.ensures.marks;
       instants = subst (λ item. TellsInstants item c.next.new.found.items c.args.self.now.at c.item.new.list.items) (sym c.in-Ok-Some.field-0-is) told;
-      time = subst (λ (item : Option Item). c.item.new.self.at ≡ time_of c.args.self.now.clock item c.args.self.now.at) (sym c.in-Ok-Some.field-0-is) c.item.ensures.time;
+      time = subst (λ (item : Option Item). c.item.new.self.at ≡ time_behind_next c.args.self.now.clock item c.args.self.now.at) (sym c.in-Ok-Some.field-0-is) c.item.ensures.time;
     }
 
 pub returns-in-Ok-None-clause-goes_on : goal.returns-in-Ok-None-clause-goes_on
