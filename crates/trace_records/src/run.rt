@@ -47,6 +47,12 @@ pub enum RunStop {
     Trace(TraceStop),
 }
 
+impl From<TraceStop> for RunStop {
+    fn from(stop: TraceStop) -> RunStop {
+        RunStop::Trace(stop)
+    }
+}
+
 // Tells what the teller finds, in at most this number of calls.
 fn tell_run<T: Teller, W: Sink>(
     alloc: Global,
@@ -61,10 +67,7 @@ fn tell_run<T: Teller, W: Sink>(
     for _ in 0..calls {
         changes.clear();
         match teller.next(&mut changes) {
-            NextChanges::Changes => match trace.tell_more(sink, changes.as_slice()) {
-                Ok(()) => {}
-                Err(stop) => return Err(RunStop::Trace(stop)),
-            },
+            NextChanges::Changes => trace.tell_more(sink, changes.as_slice())?,
             NextChanges::End => return Ok(()),
             NextChanges::Fault => return Err(RunStop::Fault),
             NextChanges::NoMemory => return Err(RunStop::Trace(TraceStop::NoMemory)),
@@ -83,13 +86,9 @@ fn trace_to_end<T: Teller, W: Sink>(
 ) -> Result<(), RunStop>
     ensures { (start : W) → IsTelling W.takes start sink.old trace.old → OnOk result (IsTraced W.takes start sink.new) }
 {
-    match tell_run(alloc, teller, calls, trace, sink) {
-        Err(stop) => Err(stop),
-        Ok(()) => match trace.finish(sink) {
-            Ok(()) => Ok(()),
-            Err(stop) => Err(RunStop::Trace(stop)),
-        },
-    }
+    tell_run(alloc, teller, calls, trace, sink)?;
+    trace.finish(sink)?;
+    Ok(())
 }
 
 /// Traces what a teller tells to a sink, in at most this number of calls.

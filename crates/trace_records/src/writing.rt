@@ -36,13 +36,9 @@ fn flush<W: Sink>(text: &mut String, sink: &mut W) -> Result<(), WriteFault>
     ensures took { OnOk result (Took W.takes sink.old (string_bytes text.old) sink.new) }
     ensures text { OnOk result (string_bytes text.new ≡ []) }
 {
-    match write_all(sink, text.as_bytes()) {
-        Ok(()) => {
-            text.clear();
-            Ok(())
-        }
-        Err(fault) => Err(fault),
-    }
+    write_all(sink, text.as_bytes())?;
+    text.clear();
+    Ok(())
 }
 
 // Writes what is kept, if that is much.
@@ -120,10 +116,8 @@ fn write_places<W: Sink>(
 fn write_rest<W: Sink>(text: &mut String, sink: &mut W) -> Result<(), TraceStop>
     ensures { OnOk result (Took W.takes sink.old (string_bytes text.old) sink.new) }
 {
-    match flush(text, sink) {
-        Ok(()) => Ok(()),
-        Err(fault) => Err(TraceStop::WriteFailed(fault)),
-    }
+    flush(text, sink)?;
+    Ok(())
 }
 
 // Ends the file.
@@ -145,10 +139,8 @@ fn write_to_end<W: Sink>(
 ) -> Result<(), TraceStop>
     ensures { (start : W) (whole : List ℕ) → IsPending W.takes start whole sink.old text.old → OnOk result (Took W.takes start (((whole ++ label_lines tail.now.labels.now) ++ place_lines tail.now.symbols.now.symbols tail.now.places.now) ++ codes "\n]}") sink.new) }
 {
-    match write_labels(alloc, text, tail.labels, sink) {
-        Ok(()) => write_rest_of(alloc, text, tail.symbols, tail.places, sink),
-        Err(stop) => Err(stop),
-    }
+    write_labels(alloc, text, tail.labels, sink)?;
+    write_rest_of(alloc, text, tail.symbols, tail.places, sink)
 }
 
 // Writes the places, and ends the file.
@@ -161,10 +153,8 @@ fn write_rest_of<W: Sink>(
 ) -> Result<(), TraceStop>
     ensures { (start : W) (whole : List ℕ) → IsPending W.takes start whole sink.old text.old → OnOk result (Took W.takes start ((whole ++ place_lines symbols.now.symbols places.now) ++ codes "\n]}") sink.new) }
 {
-    match write_places(alloc, text, symbols, places, sink) {
-        Ok(()) => write_end(text, sink),
-        Err(stop) => Err(stop),
-    }
+    write_places(alloc, text, symbols, places, sink)?;
+    write_end(text, sink)
 }
 
 // Whatever the numbers are, they fit.

@@ -117,12 +117,10 @@ fn with_rest<M: Meter, E: Sink>(
     ensures adds { IfOk result (λ whole. (back : List ℕ) × (string_bytes whole ≡ string_bytes page ++ back)) }
     ensures status { IfErr result (λ status. status ≢ 0) }
 {
-    match tell_other(&mut page, input, other, meter, errors) {
-        Err(status) => Err(status),
-        Ok(()) => match push_tail(&mut page) {
-            Ok(()) => Ok(page),
-            Err(_) => Err(no_memory(errors)),
-        },
+    tell_other(&mut page, input, other, meter, errors)?;
+    match push_tail(&mut page) {
+        Ok(()) => Ok(page),
+        Err(_) => Err(no_memory(errors)),
     }
 }
 

@@ -32,9 +32,9 @@ pub struct About<'a> {
 const HALF: u64 = 4_294_967_296;
 
 // A member: its key and a number.
-fn push_number(out: &mut String, key: &str, n: u64) -> Result<(), Refused> {
+fn push_number(out: &mut String, key: &str, number: u64) -> Result<(), Refused> {
     push_text(out, key)?;
-    push_decimal(out, n)
+    push_decimal(out, number)
 }
 
 fn kind_number(kind: SymbolKind) -> u64 {

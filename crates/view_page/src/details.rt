@@ -249,8 +249,13 @@ fn put_created<D: Device>(
 }
 
 // A timer that is another than it was.
-fn put_timer(row: &mut Vec<u64>, known: &mut Known, n: u8, timer: Timer) -> Result<(), Refused> {
-    let Some(before) = known.timers.get_mut(usize::from(n)) else {
+fn put_timer(
+    row: &mut Vec<u64>,
+    known: &mut Known,
+    number: u8,
+    timer: Timer,
+) -> Result<(), Refused> {
+    let Some(before) = known.timers.get_mut(usize::from(number)) else {
         return Ok(());
     };
     if *before == Some(timer) {
@@ -261,7 +266,7 @@ fn put_timer(row: &mut Vec<u64>, known: &mut Known, n: u8, timer: Timer) -> Resu
         row,
         &[
             205,
-            u64::from(n),
+            u64::from(number),
             u64::from(timer.cpu),
             timer.due,
             timer.period,
@@ -276,9 +281,9 @@ fn put_timers<D: Device>(
     machine: &Machine<D>,
     known: &mut Known,
 ) -> Result<(), Refused> {
-    for n in 0..machine.timer_count() {
-        if let Some(timer) = machine.timer(n) {
-            put_timer(row, known, n, timer)?;
+    for number in 0..machine.timer_count() {
+        if let Some(timer) = machine.timer(number) {
+            put_timer(row, known, number, timer)?;
         }
     }
     Ok(())

@@ -37,8 +37,8 @@ fn notice_name(kind: NoticeKind) -> &'static str {
     }
 }
 
-fn numeral(n: u8) -> Piece<'static> {
-    Number(u64::from(n))
+fn numeral(number: u8) -> Piece<'static> {
+    Number(u64::from(number))
 }
 
 fn push_times(out: &mut String, times: u64) -> Result<(), Refused> {
