@@ -174,8 +174,13 @@ unraised seen c was now none others =
       | inl same ↦ rw (lane_stays d (slice_get seen.lanes.items d), same, none, none_after c (line_counts_at c was)) refl
       | inr other ↦ rw (lane_stays d (slice_get seen.lanes.items d), others d other, pipe_stays d (line_counts_at d was)) refl
     ] in
-    rw (ticks_stay seen.ticks, none_below (processor_marks seen seen was now) seen.cpu_count (λ d less. here d), none_below (one_task_marks seen seen) seen.task_count (λ t less. one_stays seen t),
-    none_below (owner_marks seen seen) seen.mutex_count (λ m less. owner_stays seen m), notices_stay seen.notices seen.last_notice) refl
+    rw (
+      ticks_stay seen.ticks,
+      none_below (processor_marks seen seen was now) seen.cpu_count (λ d less. here d),
+      none_below (one_task_marks seen seen) seen.task_count (λ t less. one_stays seen t),
+      none_below (owner_marks seen seen) seen.mutex_count (λ m less. owner_stays seen m),
+      notices_stay seen.notices seen.last_notice,
+    ) refl
 
 -- the marks of a line are those of all lines, where the counts of the others stand
 beyond : {X : Type 0} (xs : List X) (i : ℕ) → length xs ≤ i → slice_get xs i ≡ None
@@ -201,7 +206,7 @@ one_line c l before after all others =
     less_or_not : (n m : ℕ) → (n < m) ⊎ (m ≤ n)
     less_or_not n zero = inr (omega arith)
     less_or_not zero (suc m) = inl (omega arith)
-    less_or_not (suc n) (suc m) = elim (less_or_not n m) [ | inl h ↦ inl (omega (arith, h)) | inr h ↦ inr (omega (arith, h)) ]
+    less_or_not (suc n) (suc m) = elim (less_or_not n m) [ inl h ↦ inl (omega (arith, h)) | inr h ↦ inr (omega (arith, h)) ]
 
 -- the counts of the other lines stand
 pub elsewhere : (l k : ℕ) (p : Pipe) → k ≢ l → slice_get (raise l p).counts k ≡ slice_get p.counts k

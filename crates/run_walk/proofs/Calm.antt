@@ -38,42 +38,26 @@ other_counts : (l m : ℕ) (f : Counts → Counts) (p q : Pipe) (o : Option Coun
 other_counts l m f p q o other c e = ap (λ (x : List Counts). slice_get x l) c.counts ∙ change-elsewhere f p.counts m l other ∙ e
 
 absent_raise : (l m : ℕ) (o : Option Counts) (p : Pipe) → l < LINES → l ≢ m → Absent l o p → Absent l o (raise m p)
-absent_raise l m o p h other s = record { wire = wires; oob = logs.0; in_band = logs.1; counts = other_counts l m _ p (raise m p) o other (raise-counted m p) s.counts }
-  where
-    wires : has_line (raise m p).wire l ≡ false
-    unfolding raise
-    wires = has_line-with_other p.wire m l other h ∙ s.wire
-
-    logs : (has_line (raise m p).oob.lines l ≡ false) × (has_line (raise m p).in_band.lines l ≡ false)
-    unfolding raise
-    logs = (s.oob, s.in_band)
+unfolding raise
+absent_raise l m o p h other s = record { wire = has_line-with_other p.wire m l other h ∙ s.wire; oob = s.oob; in_band = s.in_band; counts = other_counts l m _ p _ o other (raise-counted m p) s.counts }
 
 absent_leave : (l m : ℕ) (o : Option Counts) (p : Pipe) → l < LINES → l ≢ m → Absent l o p → Absent l o (leave_wire m p)
-absent_leave l m o p h other s = record { wire = wires; oob = logs.0; in_band = logs.1; counts = other_counts l m _ p (leave_wire m p) o other (leave-counted m p) s.counts }
-  where
-    wires : has_line (leave_wire m p).wire l ≡ false
-    unfolding leave_wire
-    wires = has_line-without_other p.wire m l other h ∙ s.wire
-
-    logs : (has_line (leave_wire m p).oob.lines l ≡ false) × (has_line (leave_wire m p).in_band.lines l ≡ false)
-    unfolding leave_wire
-    logs = (s.oob, s.in_band)
+unfolding leave_wire
+absent_leave l m o p h other s = record { wire = has_line-without_other p.wire m l other h ∙ s.wire; oob = s.oob; in_band = s.in_band; counts = other_counts l m _ p _ o other (leave-counted m p) s.counts }
 
 absent_arrive : (stage : Stage) (l m : ℕ) (o : Option Counts) (p : Pipe) → l < LINES → l ≢ m → Absent l o p → Absent l o (arrive stage m p)
-absent_arrive stage l m o p h other s = record { wire = (logs stage).0; oob = (logs stage).1.0; in_band = (logs stage).1.1; counts = other_counts l m _ p (arrive stage m p) o other (arrive-counted stage m p) s.counts }
-  where
-    logs : (g : Stage) → (has_line (arrive g m p).wire l ≡ false) × ((has_line (arrive g m p).oob.lines l ≡ false) × (has_line (arrive g m p).in_band.lines l ≡ false))
-    unfolding arrive
-    logs OutOfBand = (s.wire, (has_line-with_other p.oob.lines m l other h ∙ s.oob, s.in_band))
-    logs InBand = (s.wire, (s.oob, has_line-with_other p.in_band.lines m l other h ∙ s.in_band))
+unfolding arrive
+absent_arrive OutOfBand l m o p h other s =
+    record { wire = s.wire; oob = has_line-with_other p.oob.lines m l other h ∙ s.oob; in_band = s.in_band; counts = other_counts l m _ p _ o other (arrive-counted OutOfBand m p) s.counts }
+absent_arrive InBand l m o p h other s =
+    record { wire = s.wire; oob = s.oob; in_band = has_line-with_other p.in_band.lines m l other h ∙ s.in_band; counts = other_counts l m _ p _ o other (arrive-counted InBand m p) s.counts }
 
 absent_play : (stage : Stage) (l m : ℕ) (o : Option Counts) (p : Pipe) → l < LINES → l ≢ m → Absent l o p → Absent l o (play stage m p)
-absent_play stage l m o p h other s = record { wire = (logs stage).0; oob = (logs stage).1.0; in_band = (logs stage).1.1; counts = other_counts l m _ p (play stage m p) o other (play-counted stage m p) s.counts }
-  where
-    logs : (g : Stage) → (has_line (play g m p).wire l ≡ false) × ((has_line (play g m p).oob.lines l ≡ false) × (has_line (play g m p).in_band.lines l ≡ false))
-    unfolding play
-    logs OutOfBand = (s.wire, (has_line-without_other p.oob.lines m l other h ∙ s.oob, s.in_band))
-    logs InBand = (s.wire, (s.oob, has_line-without_other p.in_band.lines m l other h ∙ s.in_band))
+unfolding play
+absent_play OutOfBand l m o p h other s =
+    record { wire = s.wire; oob = has_line-without_other p.oob.lines m l other h ∙ s.oob; in_band = s.in_band; counts = other_counts l m _ p _ o other (play-counted OutOfBand m p) s.counts }
+absent_play InBand l m o p h other s =
+    record { wire = s.wire; oob = s.oob; in_band = has_line-without_other p.in_band.lines m l other h ∙ s.in_band; counts = other_counts l m _ p _ o other (play-counted InBand m p) s.counts }
 
 absent_stall : (stage : Stage) (b : Bool) (l : ℕ) (o : Option Counts) (p : Pipe) → Absent l o p → Absent l o (set_stall stage b p)
 unfolding set_stall
@@ -228,7 +212,7 @@ beyond (x ∷ xs) (suc i) h = beyond xs i (omega (arith, h))
 less_or_not : (n m : ℕ) → (n < m) ⊎ (m ≤ n)
 less_or_not n zero = inr (omega arith)
 less_or_not zero (suc m) = inl (omega arith)
-less_or_not (suc n) (suc m) = elim (less_or_not n m) [ | inl h ↦ inl (omega (arith, h)) | inr h ↦ inr (omega (arith, h)) ]
+less_or_not (suc n) (suc m) = elim (less_or_not n m) [ inl h ↦ inl (omega (arith, h)) | inr h ↦ inr (omega (arith, h)) ]
 
 pub own_stands : (c : ℕ) (b : Board) (p q : Pipe) → ArePipes b.parts → slice_get b.parts.pipes c ≡ Some p → is_calm (Some p) ≡ true → slice_get (step c b).0.parts.pipes c ≡ Some q → SameRaised p.counts q.counts → q.counts ≡ p.counts
 own_stands c b p q are before calm after same = same_elements q.counts p.counts (λ l. elim (less_or_not l LINES) [

@@ -1,5 +1,6 @@
 //! What the tasks and objects of a run are called.
 
+use crate::cursor::WalkStop;
 use crate::walk::Walk;
 use evm_dev::Device;
 use evm_diagnostics::Devices;
@@ -235,19 +236,21 @@ impl RunNames {
     }
 
     // The names of a run that is walked from its first event to its end, or to its first fault.
-    fn of_run<D: Device>(
+    fn of_walk<D: Device>(
         alloc: Global,
-        mut walk: Walk<D>,
+        walk: &mut Walk<D>,
         image: &Names,
-    ) -> Result<RunNames, Refused> {
+    ) -> Result<RunNames, WalkStop> {
         let mut names = RunNames::new(alloc);
         let symbols = &image.symbols;
         names.add_task(alloc, walk.machine(), symbols, 0)?;
         let mut found = Vec::new(alloc);
         for _ in 0..walk.event_count() {
-            let Ok(Some(_)) = walk.next(&mut found) else {
-                break;
-            };
+            match walk.next(&mut found) {
+                Ok(Some(_)) => {}
+                Ok(None) | Err(WalkStop::AtFault(_)) => break,
+                Err(WalkStop::NoMemory) => return Err(WalkStop::NoMemory),
+            }
             names.add_created(alloc, walk.machine(), symbols, found.as_slice())?;
         }
         names.add_mapped_tasks(alloc, walk.machine(), image)?;
@@ -255,6 +258,15 @@ impl RunNames {
             names.add_mapped(alloc, walk.machine(), image, kind)?;
         }
         Ok(names)
+    }
+
+    // Owns the walk, so that the function above works on what is lent.
+    fn of_run<D: Device>(
+        alloc: Global,
+        mut walk: Walk<D>,
+        image: &Names,
+    ) -> Result<RunNames, NoMemory> {
+        RunNames::of_walk(alloc, &mut walk, image).map_err(|_| NoMemory)
     }
 
     /// The names of the run of a journal's text, which is replayed up to its end or its first fault: those that the image's map gives,
@@ -274,8 +286,9 @@ impl RunNames {
             return Ok(RunNames::new(alloc));
         }
         match Walk::start(alloc, image, devices, journal) {
-            Ok(walk) => RunNames::of_run(alloc, walk, names).map_err(|_| NoMemory),
-            Err(_) => Ok(RunNames::new(alloc)),
+            Ok(walk) => RunNames::of_run(alloc, walk, names),
+            Err(WalkStop::AtFault(_)) => Ok(RunNames::new(alloc)),
+            Err(WalkStop::NoMemory) => Err(NoMemory),
         }
     }
 }

@@ -14,7 +14,7 @@ pub returns : goal.returns
 returns g c =
     λ was seen count is only. (
       c.in_ok-push_line_at.ensures
-      ∙ ap (λ l. c.args.marks.now.items ++ l) (sym (line_raised seen c.args.cpu c.args.line c.args.tally.now.rows c.row.result.now c.in-Some.counts.now was c.args.machine.now.board.parts count c.rules.ensures.good.good.pipes_count
-      (λ pipe at. (c.rules.ensures.good.good.pipes c.args.cpu pipe at).counts) is only c.row.ensures (sym c.in-Some.ensures))),
+          ∙ ap (λ l. c.args.marks.now.items ++ l) (sym (line_raised seen c.args.cpu c.args.line c.args.tally.now.rows c.row.result.now c.in-Some.counts.now was c.args.machine.now.board.parts count c.rules.ensures.good.good.pipes_count
+          (λ pipe at. (c.rules.ensures.good.good.pipes c.args.cpu pipe at).counts) is only c.row.ensures (sym c.in-Some.ensures))),
       kept_one c.args.cpu c.args.tally.now.rows c.keep.new.self.rows c.in-Some.counts.now was c.args.machine.now.board.parts is only.others (sym c.in-Some.ensures) c.keep.ensures.here c.keep.ensures.others,
     )
