@@ -19,9 +19,10 @@ use Rattle.evm_model.specs.declared.stage.Stage.{Stage}
 use Rattle.evm_model.specs.declared.stage.Stage.TheVariants.{OutOfBand, InBand}
 use Rattle.law_rules.proofs.Counted.{Counted, raise-counted, leave-counted, arrive-counted, play-counted}
 use Rattle.law_rules.proofs.Lift.{Lifts, lift}
+use Rattle.law_rules.proofs.RowWalks.{SETTLING_STAMPS}
 use Rattle.law_rules.proofs.Sets.{walk_pipes}
 use Rattle.law_rules.proofs.Walk.{Actor, PipeMove, raises, receives, plays_timer, plays_oob, plays_in_band, stalls, ArePipes, Walk}
-use Rattle.law_runs.proofs.Executing.{SETTLING_MOVES, SETTLING_STAMPS, StepParts, doer, settler, step_parts}
+use Rattle.law_runs.proofs.Executing.{SETTLING_MOVES, StepParts, doer, settler, step_parts}
 use Rattle.law_runs.proofs.Raised.{RaisedIs, line_pipes, line_raised, walk-raised}
 use Rattle.law_runs.specs.Balance.{line_of_step, one_if}
 use Rattle.run_marks.specs.Tallies.{SameRaised, is_calm}
@@ -70,7 +71,7 @@ absent_receive stage l m o p h other s = absent_arrive stage l m o (leave_wire m
 
 -- it isn't the line that is there
 differs : (set : List ℕ) (l m : ℕ) → has_line set l ≡ false → has_line set m ≡ true → l ≢ m
-differs set l m no yes same = let e : true ≡ false = sym yes ∙ ap (has_line set) (sym same) ∙ no in absurd cc
+differs set l m lacks has_it same = let e : true ≡ false = sym has_it ∙ ap (has_line set) (sym same) ∙ lacks in absurd cc
 
 absent_moved : (l : ℕ) (o : Option Counts) (may : ℕ → Bool) (n : ℕ) (p q : Pipe) → l < LINES → may l ≡ false → PipeMove may n p q → Absent l o p → Absent l o q
 absent_moved l o may _ _ _ h none (raises m p small on) s = absent_raise l m o p h (λ same. let e : true ≡ false = sym on ∙ ap may (sym same) ∙ none in absurd cc) s
@@ -180,7 +181,9 @@ module _ (c : ℕ) (b : Board) (are : ArePipes b.parts) where
           let w = line_raised line c l n.raised d.before (walk-raised c l n.raised (doer c d.task) b.parts 1 65 d.before refl are d.acts old_raised) in
           let zero_is : (0 == c) ≡ true = grind (arith, nat_tests) in
           let itself : (l == l) ≡ true = grind (arith, nat_tests) in
-          rw (is, zero_is, itself) at w
+          let one : one_if ((0 == c) && (l == l)) ≡ 1 = rw (zero_is, itself) refl in
+          let e : one_if (0 == c && is_number line l) ≡ 1 = ap (λ o. one_if (0 == c && is_number o l)) is ∙ one in
+          subst (λ k. RaisedIs c l (n.raised + k) (raise_line line d.before)) e w
 
       pub once_more : (m : Counts) → slice_get q.counts l ≡ Some m → m.raised ≡ n.raised + 1
       once_more m e = (walk-raised c l (n.raised + 1) (settler c) (raise_line line d.before) SETTLING_MOVES SETTLING_STAMPS d.settled refl are_raised d.settles more_raised).times q m now_settled e

@@ -10,7 +10,8 @@ use Rattle.evm_model.specs.Devices.{line_if, raise_line}
 use Rattle.evm_model.specs.Event.{Event}
 use Rattle.evm_model.specs.Good.{GoodState}
 use Rattle.evm_model.specs.Pipes.{Pipe, raise}
-use Rattle.evm_model.specs.Replay.{accept, apply, apply_unless, left_by, refusal, replay}
+use Rattle.evm_model.specs.Replay.{accept, apply, apply_unless, left_by, replay}
+use Rattle.evm_model.specs.Refusals.{refusal}
 use Rattle.evm_model.specs.Rows.{row, step}
 use Rattle.evm_model.specs.State.{Board, Parts, State}
 use Rattle.evm_model.specs.declared.counts.Counts.{Counts}
@@ -22,7 +23,7 @@ use Rattle.evm_model.specs.declared.limits.TheConstants.{DEVICE_LIMIT, DEVICE_LI
 use Rattle.evm_model.specs.declared.refusal.Refusal.{Refusal}
 use Rattle.law_rules.proofs.Walk.{ArePipes}
 use Rattle.law_runs.specs.Changes.{LineRaised, MemoryChanges, StepChanges}
-use Rattle.law_runs.specs.Touching.{stands, written, touches}
+use Rattle.law_runs.specs.Touching.{stands as memory_stands, written, touches}
 use Rattle.run_walk.proofs.Calm.{own_stands}
 use Rattle.run_walk.specs.Observers.{IsCalmFor}
 use Rattle.run_walk.specs.Items.{outline}
@@ -133,7 +134,7 @@ line_small true i l h e = let same : l ≡ DEVICE_LINE + i = cc in omega (arith,
 line_small false i l h e = absurd cc
 
 small : (c : ℕ) (answer : Answer) (old new : Board) (line : Option ℕ) → MemoryChanges c answer old new line → length old.memory.devices ≤ DEVICE_LIMIT → (l : ℕ) → line ≡ Some l → l < LINES
-small c answer old new _ (stands e) few l is = absurd cc
+small c answer old new _ (memory_stands e) few l is = absurd cc
 small c answer old new _ (written e) few l is = absurd cc
 small c answer old new _ (touches line t) few l is =
     let there = slice_get-below old.memory.devices t.device t.attached t.there in
