@@ -1,6 +1,7 @@
 //! What is seen of a machine before and after an event.
 
 ghost use Rattle.std.specs.Prelude.{◌≡◌, ◌<◌, [], true, OnOk, IfOk};
+ghost use Rattle.std.specs.Option.{IfSome};
 ghost use Rattle.evm_model.specs.Good.{GoodState};
 ghost use Rattle.evm_model.specs.State.{Parts, State};
 ghost use Rattle.run_marks.specs.Marks.{AreMarks};
@@ -26,6 +27,16 @@ pub struct Observer {
     pub(crate) tally: Tally,
     // this is of the machine as it is
     pub(crate) fresh: bool,
+}
+
+// The line that an event raises which does nothing else, and its processor.
+fn raised_line(reach: Reach) -> Option<(u8, u8)>
+    ensures { IfSome result (λ it. (reach ≡ Reach.ByLine it.0 it.1) × (it.0 < PROCESSORS)) }
+{
+    match reach {
+        Reach::ByLine(cpu, line) if usize::from(cpu) < PROCESSOR_LIMIT => Some((cpu, line)),
+        _ => None,
+    }
 }
 
 impl Observer {
@@ -85,7 +96,7 @@ impl Observer {
     }
 
     // Looks at the machine after a line of a processor was raised and nothing else changed, and appends the marks.
-    fn follow_raise<D: Device>(
+    fn follow_line<D: Device>(
         &mut self,
         found: &mut Vec<Mark>,
         machine: &Machine<D>,
@@ -116,11 +127,10 @@ impl Observer {
         if item.quiet {
             return Ok(());
         }
-        match reach_of(&item.event, calm) {
-            Reach::ByLine(cpu, line) if usize::from(cpu) < PROCESSOR_LIMIT => {
-                self.follow_raise(found, machine, cpu, line)
-            }
-            reach => self.follow(found, machine, reach),
+        let reach = reach_of(&item.event, calm);
+        if let Some((cpu, line)) = raised_line(reach) {
+            return self.follow_line(found, machine, cpu, line);
         }
+        self.follow(found, machine, reach)
     }
 }

@@ -2,7 +2,7 @@ use Rattle.std.proofs.Common.{◌≡◌, ◌++◌, subst, ◌∙◌, ap}
 use Rattle.run_marks.specs.Marks.{AreMarks, marks_of}
 use Rattle.run_walk.proofs.Observing.{raised-seen, then}
 use Rattle.run_walk.specs.Observers.{IsObserverOf}
-use Rattle.run_walk.proofs.observer.Observer.follow_raise.Goals as goal
+use Rattle.run_walk.proofs.observer.Observer.follow_line.Goals as goal
 
 pub returns-clause-ok : goal.returns-clause-ok
 returns-clause-ok g c =
