@@ -30,13 +30,13 @@ reach_of (Bell c line) calm = ByLine c line
 reach_of _ calm = All
 
 -- no line is on a wire
-abbrev pub is_clear : Pipe → Bool
-is_clear pipe = is_none (least_line pipe.wire)
+abbrev pub has_clear_wire : Pipe → Bool
+has_clear_wire pipe = is_none (least_line pipe.wire)
 
 -- no line waits: none is on the wire, none is in a log
 abbrev pub is_calm : Option Pipe → Bool
 is_calm None = false
-is_calm (Some pipe) = is_clear pipe && (is_none (least_line pipe.oob.lines) && is_none (least_line pipe.in_band.lines))
+is_calm (Some pipe) = has_clear_wire pipe && (is_none (least_line pipe.oob.lines) && is_none (least_line pipe.in_band.lines))
 
 -- the counts of processor d stand unless one of its lines was raised
 abbrev pub StandUnlessRaised : ℕ → Parts → Parts → Type 0
@@ -44,7 +44,7 @@ StandUnlessRaised d was now = (p q : Pipe) → slice_get was.pipes d ≡ Some p 
 
 -- .. unless a line is on its wire afterwards
 abbrev pub StandUnlessOnWire : ℕ → Parts → Parts → Type 0
-StandUnlessOnWire d was now = (p q : Pipe) → slice_get was.pipes d ≡ Some p → slice_get now.pipes d ≡ Some q → is_clear q ≡ true → q.counts ≡ p.counts
+StandUnlessOnWire d was now = (p q : Pipe) → slice_get was.pipes d ≡ Some p → slice_get now.pipes d ≡ Some q → has_clear_wire q ≡ true → q.counts ≡ p.counts
 
 -- what a Step leaves: where no line waited, all counts of its processor but those of a line that was raised; and so of each other processor, on whose wire that line is
 pub record StepLeaves (step : Stepped) (was now : Parts) : Type 0 where
@@ -58,12 +58,12 @@ pub record OnlyRaises (c l : ℕ) (was now : Parts) : Type 0 where
   pub here : slice_get now.pipes c ≡ option_map (raise l) (slice_get was.pipes c)
   pub others : (d : ℕ) → d ≢ c → slice_get now.pipes d ≡ slice_get was.pipes d
 
-abbrev pub Leaves : Reach → Parts → Parts → Type 0
-Leaves (ByLine c l) was now = OnlyRaises c l was now
-Leaves (ByStep step) was now = StepLeaves step was now
-Leaves All was now = Unit {0}
+abbrev pub LeavesCounts : Reach → Parts → Parts → Type 0
+LeavesCounts (ByLine c l) was now = OnlyRaises c l was now
+LeavesCounts (ByStep step) was now = StepLeaves step was now
+LeavesCounts All was now = Unit {0}
 
 -- an event that reaches so far led from one to the other
 pub record IsWithinReach (reach : Reach) (was now : Parts) : Type 0 where
   pub pipes : length now.pipes ≡ length was.pipes
-  pub leaves : Leaves reach was now
+  pub leaves : LeavesCounts reach was now

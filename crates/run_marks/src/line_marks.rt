@@ -11,7 +11,7 @@ ghost use Rattle.run_marks.specs.Tallies.{IsTallyOf, IsTallyUpTo, IsWithinReach,
 
 use crate::mark::Mark;
 use crate::marking::push_when;
-use crate::tally::{Reach, Stepped, Tally, is_clear, same_raised};
+use crate::tally::{Reach, Stepped, Tally, has_clear_wire, same_raised};
 use evm_dev::Device;
 use evm_journal::Machine;
 use evm_lines::LINES;
@@ -181,7 +181,7 @@ fn is_left_beside<D: Device>(
 ) -> bool
     ensures { (was : Parts) (p : Pipe) (q : Pipe) → result ≡ true → StandUnlessOnWire cpu was machine.now.board.parts → StandUnlessRaised cpu was machine.now.board.parts → slice_get was.pipes cpu ≡ Option.Some p → slice_get machine.now.board.parts.pipes cpu ≡ Option.Some q → p.counts ≡ before.now → q.counts ≡ after.now → after.now ≡ before.now }
 {
-    if is_clear(machine, cpu) {
+    if has_clear_wire(machine, cpu) {
         true
     } else {
         same_raised(before, after)

@@ -5,7 +5,7 @@ ghost use Rattle.evm_lines.specs.declared.TheConstants.{LINES as LINE_LIMIT};
 ghost use Rattle.evm_model.specs.Pipes.{Pipe};
 ghost use Rattle.evm_model.specs.declared.limits.TheConstants.{PROCESSOR_LIMIT as PROCESSORS};
 ghost use Rattle.evm_journal.specs.evm_core.Views.{stages_in};
-ghost use Rattle.run_marks.specs.Tallies.{is_calm, is_clear, reach_of, IsTallyOf, SameRaised};
+ghost use Rattle.run_marks.specs.Tallies.{is_calm, has_clear_wire, reach_of, IsTallyOf, SameRaised};
 
 use evm_dev::Device;
 use evm_journal::{Machine, Stages};
@@ -120,8 +120,8 @@ impl Tally {
 }
 
 /// Whether no line is on a processor's wire.
-pub(crate) fn is_clear<D: Device>(machine: &Machine<D>, cpu: u8) -> bool
-    ensures { (pipe : Pipe) → result ≡ true → slice_get machine.now.board.parts.pipes cpu ≡ Option.Some pipe → is_clear pipe ≡ true }
+pub(crate) fn has_clear_wire<D: Device>(machine: &Machine<D>, cpu: u8) -> bool
+    ensures { (pipe : Pipe) → result ≡ true → slice_get machine.now.board.parts.pipes cpu ≡ Option.Some pipe → has_clear_wire pipe ≡ true }
 {
     match machine.wire(cpu) {
         None => false,

@@ -27,7 +27,7 @@ use Rattle.law_runs.specs.Touching.{stands as memory_stands, written, touches}
 use Rattle.run_walk.proofs.Calm.{own_stands}
 use Rattle.run_walk.specs.Observers.{IsCalmFor}
 use Rattle.run_walk.specs.Items.{outline}
-use Rattle.run_marks.specs.Tallies.{reach_of, is_calm, is_clear, IsWithinReach, Leaves, OnlyRaises, SameRaised, StandUnlessOnWire, StandUnlessRaised, StepLeaves}
+use Rattle.run_marks.specs.Tallies.{reach_of, is_calm, has_clear_wire, IsWithinReach, LeavesCounts, OnlyRaises, SameRaised, StandUnlessOnWire, StandUnlessRaised, StepLeaves}
 use Rattle.run_marks.specs.declared.tally.Stepped.{Stepped}
 
 -- ---- lines that are raised
@@ -93,7 +93,7 @@ noisy : (set : List ℕ) (l : ℕ) → is_none (least_line set) ≡ true → has
 noisy [] l e f = absurd cc
 noisy (x ∷ set) l e f = absurd cc
 
-not_clear : (l : ℕ) (p : Pipe) → l < LINES → is_clear (raise l p) ≡ true → ⊥
+not_clear : (l : ℕ) (p : Pipe) → l < LINES → has_clear_wire (raise l p) ≡ true → ⊥
 not_clear l p h clear = noisy (raise l p).wire l clear (on_wire l p h)
 
 -- ---- a step
@@ -120,13 +120,13 @@ and_told : (p q : Pipe) (o : Option Pipe) → Heard p o → Some q ≡ option_ma
 and_told p q o nothing e = let same : q ≡ raise 1 p = cc in subst (λ (x : Pipe). StandsUnless p x) (sym same) (once 1 p)
 and_told p q o (a_line l h) e = let same : q ≡ raise 1 (raise l p) = cc in subst (λ (x : Pipe). StandsUnless p x) (sym same) (twice l p)
 
-clear_heard : (p q : Pipe) (o : Option Pipe) → Heard p o → Some q ≡ o → is_clear q ≡ true → q.counts ≡ p.counts
+clear_heard : (p q : Pipe) (o : Option Pipe) → Heard p o → Some q ≡ o → has_clear_wire q ≡ true → q.counts ≡ p.counts
 clear_heard p q o nothing e clear = let same : q ≡ p = cc in ap (λ (x : Pipe). x.counts) same
-clear_heard p q o (a_line l h) e clear = let same : q ≡ raise l p = cc in absurd (not_clear l p h (subst (λ (x : Pipe). is_clear x ≡ true) same clear))
+clear_heard p q o (a_line l h) e clear = let same : q ≡ raise l p = cc in absurd (not_clear l p h (subst (λ (x : Pipe). has_clear_wire x ≡ true) same clear))
 
-clear_told : (p q : Pipe) (o : Option Pipe) → Heard p o → Some q ≡ option_map (raise 1) o → is_clear q ≡ true → q.counts ≡ p.counts
-clear_told p q o nothing e clear = let same : q ≡ raise 1 p = cc in absurd (not_clear 1 p (omega arith) (subst (λ (x : Pipe). is_clear x ≡ true) same clear))
-clear_told p q o (a_line l h) e clear = let same : q ≡ raise 1 (raise l p) = cc in absurd (not_clear 1 (raise l p) (omega arith) (subst (λ (x : Pipe). is_clear x ≡ true) same clear))
+clear_told : (p q : Pipe) (o : Option Pipe) → Heard p o → Some q ≡ option_map (raise 1) o → has_clear_wire q ≡ true → q.counts ≡ p.counts
+clear_told p q o nothing e clear = let same : q ≡ raise 1 p = cc in absurd (not_clear 1 p (omega arith) (subst (λ (x : Pipe). has_clear_wire x ≡ true) same clear))
+clear_told p q o (a_line l h) e clear = let same : q ≡ raise 1 (raise l p) = cc in absurd (not_clear 1 (raise l p) (omega arith) (subst (λ (x : Pipe). has_clear_wire x ≡ true) same clear))
 
 -- a device's line is one of eight
 line_small : (raise : Bool) (i l : ℕ) → i < DEVICE_LIMIT → Some l ≡ line_if raise i → l < LINES
@@ -178,7 +178,7 @@ raise_leaves : (c l : ℕ) (old new : Board) → LineRaised c l old new → Only
 raise_leaves c l old new r = record { rest = ap (λ (x : Board). x.parts) r.rest; here = r.pipes.here; others = r.pipes.others }
 
 -- ---- every event
-leaves : (event : Event) (calm : Bool) (answer : Answer) (old new : State) → GoodState old → IsCalmFor (outline event) calm old.board.parts → apply old event ≡ Ok (new, answer) → Leaves (reach_of (outline event) calm) old.board.parts new.board.parts
+leaves : (event : Event) (calm : Bool) (answer : Answer) (old new : State) → GoodState old → IsCalmFor (outline event) calm old.board.parts → apply old event ≡ Ok (new, answer) → LeavesCounts (reach_of (outline event) calm) old.board.parts new.board.parts
 leaves (Step c) calm answer old new good before e =
     let s = (events_change_only old new (Step c) answer e).board good.good good.devices.few in
     record { own = own_leaves c calm answer old new good before e; others = step_leaves c old.board new.board s good.devices.few; wires = wire_leaves c old.board new.board s good.devices.few }

@@ -3,7 +3,7 @@ use Rattle.run_marks.specs.Tallies.{SameRaised}
 use Rattle.run_marks.proofs.line_marks.is_left_beside.Goals as goal
 
 pub returns-then-is_clear : goal.returns-then-is_clear
-returns-then-is_clear g c = λ was p q yes wire raised before there x y. sym y ∙ wire p q before there (c.is_clear.ensures q c.if-is_clear.true there) ∙ x
+returns-then-is_clear g c = λ was p q yes wire raised before there x y. sym y ∙ wire p q before there (c.has_clear_wire.ensures q c.if-is_clear.true there) ∙ x
 
 pub returns-else-is_clear : goal.returns-else-is_clear
 returns-else-is_clear g c =
