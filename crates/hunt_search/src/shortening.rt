@@ -26,7 +26,7 @@ pub(crate) struct Shortening<'a> {
 }
 
 impl Shortening<'_> {
-    /// Whether a schedule of so many events may still be played. It is counted.
+    /// Whether a schedule of `events` events may still be played. If it may, it is counted.
     pub(crate) fn pays(&mut self, events: u64) -> bool {
         if self.plays == 0 || self.events < events {
             return false;
