@@ -14,10 +14,11 @@ use evm_text::push_decimal;
 pub(crate) fn put(row: &mut Vec<u64>, numbers: &[u64]) -> Result<(), Refused>
     ensures { OnOk result (row.new.items ≡ row.old.items ++ numbers.now) }
 {
+    // A few numbers are sooner pushed than copied.
     grow(row, numbers.len())?;
-    let Ok(()) = row.extend_from_slice(numbers) else {
-        unreachable!();
-    };
+    for number in numbers {
+        row.push_reserved(*number);
+    }
     Ok(())
 }
 
