@@ -17,7 +17,8 @@ use evm_journal::Machine;
 use evm_model::{Notice, Stage};
 use evm_room::Refused;
 
-/// Appends a mark, if it is one.
+/// Appends a mark, if it is one. Most are none.
+#[inline(always)]
 #[tactic(auto, using(crate::proofs::Lemmas::numbered))]
 pub(crate) fn push_when(marks: &mut Vec<Mark>, holds: bool, mark: Mark) -> Result<(), Refused>
     ensures { OnOk result (marks.new.items ≡ marks.old.items ++ (when holds mark)) }

@@ -55,6 +55,7 @@ pub struct Observation {
 }
 
 // One element more.
+#[inline(never)]
 pub(crate) fn put<T: Drop>(items: &mut Vec<T>, item: T) -> Result<(), Refused>
     ensures { OnOk result (items.new.items ≡ items.old.items ++ item ∷ []) }
 {
