@@ -4,6 +4,7 @@ ghost use Rattle.std.specs.Prelude.{◌≡◌, ◌<◌, ◌≤◌, ◌++◌, ◌
 ghost use Rattle.std.specs.String.{string_bytes};
 ghost use Rattle.text_markup.specs.Text.{items_text, text};
 ghost use Rattle.evm_text.specs.Appending.{Appends};
+ghost use Rattle.evm_text.specs.Written.{character, decimal};
 ghost use Rattle.view_page.specs.Rows.{row_items, row_json};
 ghost use Rattle.view_page.specs.Texts.{safe_byte, safe_text};
 
@@ -22,6 +23,39 @@ pub(crate) fn put(row: &mut Vec<u64>, numbers: &[u64]) -> Result<(), Refused>
     Ok(())
 }
 
+// A number below ten behind a comma.
+fn short_item(number: u64) -> &'static str
+    requires { number < 10 }
+    ensures { result.now ≡ 44 ∷ character number ∷ [] }
+{
+    match number {
+        0 => ",0",
+        1 => ",1",
+        2 => ",2",
+        3 => ",3",
+        4 => ",4",
+        5 => ",5",
+        6 => ",6",
+        7 => ",7",
+        8 => ",8",
+        _ => ",9",
+    }
+}
+
+// Appends a comma and a number.
+#[inline(always)]
+#[tactic(auto, using(evm_text::proofs::Steps::numeral_one))]
+fn push_item(out: &mut String, number: u64) -> Result<(), Refused>
+    ensures { Appends (44 ∷ decimal number) out.old out.new result }
+{
+    if number < 10 {
+        push_text(out, short_item(number))
+    } else {
+        push_text(out, ",")?;
+        push_decimal(out, number)
+    }
+}
+
 // Appends the numbers of a row behind its first, and its end.
 fn push_rest(out: &mut String, numbers: &[u64]) -> Result<(), Refused>
     ensures { Appends (items_text true (row_items numbers.now)) out.old out.new result }
@@ -29,8 +63,7 @@ fn push_rest(out: &mut String, numbers: &[u64]) -> Result<(), Refused>
     let [first, rest @ ..] = numbers else {
         return push_text(out, "]");
     };
-    push_text(out, ",")?;
-    push_decimal(out, *first)?;
+    push_item(out, *first)?;
     push_rest(out, rest)
 }
 
