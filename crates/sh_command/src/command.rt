@@ -3,7 +3,7 @@
 ghost use Rattle.std.specs.Prelude.{◌≡◌, ◌≤◌, OnOk, if◌then◌else◌};
 
 use crate::cases::Cases;
-use crate::reading::{Conversation, Finish};
+use crate::reading::{Finish, serve_lines};
 use crate::shell::Shell;
 use crate::words::{Job, job_of};
 use clap::ArgMatches;
@@ -59,16 +59,28 @@ fn serve<S: System, M: Meter + Drop>(
     world: &mut World<S>,
 ) -> u8 {
     let Some(path) = file else {
-        let mut conversation = Conversation::new(alloc, shell, &mut world.output, is_typed);
-        let finish = conversation.serve_lines(&mut world.input, &mut world.errors);
+        let finish = serve_lines(
+            alloc,
+            shell,
+            is_typed,
+            &mut world.input,
+            &mut world.output,
+            &mut world.errors,
+        );
         return finished(finish, shell.has_failed(), INPUT, world);
     };
     let mut source = match world.files.open(path) {
         Ok(source) => source,
         Err(fault) => return not_opened(path, fault, &mut world.errors),
     };
-    let mut conversation = Conversation::new(alloc, shell, &mut world.output, false);
-    let finish = conversation.serve_lines(&mut source, &mut world.errors);
+    let finish = serve_lines(
+        alloc,
+        shell,
+        false,
+        &mut source,
+        &mut world.output,
+        &mut world.errors,
+    );
     finished(finish, shell.has_failed(), path, world)
 }
 

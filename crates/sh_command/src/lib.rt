@@ -16,6 +16,6 @@ mod words;
 pub use answer::LineAnswer;
 pub use command::sh;
 pub use help::SHELL_HELP;
-pub use reading::{Conversation, Finish};
+pub use reading::{Finish, serve_lines};
 pub use sh_answers::{AnyDevice, Names, script_text};
 pub use shell::Shell;
