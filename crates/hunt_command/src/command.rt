@@ -91,7 +91,10 @@ fn way_of(job: &HuntJob<'_>) -> Result<Way, HuntStop> {
 }
 
 // Looks at the schedules of the options.
-fn hunt_by<S: System>(job: &HuntJob<'_>, telling: &mut Telling<'_, S>) -> Result<Report, HuntStop> {
+fn hunt_by<S: System>(
+    job: &HuntJob<'_>,
+    telling: &mut Telling<'_, '_, '_, S>,
+) -> Result<Report, HuntStop> {
     let options = job.options;
     if let Search::All(switches) = options.search {
         let bounds = Switching {
@@ -111,10 +114,10 @@ fn hunt_by<S: System>(job: &HuntJob<'_>, telling: &mut Telling<'_, S>) -> Result
 }
 
 // Hunts in an image, and shows each failure when it is found.
-fn hunt_in<'a, S: System>(
-    job: &HuntJob<'a>,
-    progress: HuntProgress<'a>,
-    world: &'a mut World<S>,
+fn hunt_in<S: System>(
+    job: &HuntJob<'_>,
+    progress: HuntProgress<'_>,
+    world: &mut World<S>,
 ) -> Result<(Report, u8), HuntStop> {
     let mut telling = Telling {
         job: *job,
@@ -159,7 +162,7 @@ fn hunt_with<S: System>(
     };
     let boot = boot_of(options, &names);
     let job = HuntJob {
-        options,
+        options: &*options,
         target: Target {
             alloc,
             image: &image,

@@ -9,15 +9,15 @@ use hunt_search::{Onlooker, Row, row_text};
 
 /// An onlooker that writes each failure when it is found, and ends the hunt when its time is over or a failure can't be written.
 #[derive(Drop)]
-pub(crate) struct Telling<'a, S: System> {
-    pub(crate) job: HuntJob<'a>,
-    pub(crate) progress: HuntProgress<'a>,
-    pub(crate) world: &'a mut World<S>,
+pub(crate) struct Telling<'j, 'p, 'w, S: System> {
+    pub(crate) job: HuntJob<'j>,
+    pub(crate) progress: HuntProgress<'p>,
+    pub(crate) world: &'w mut World<S>,
     /// The status of the first failure that was not written, or that there was no memory for it; 0 if each was written.
     pub(crate) told: Result<u8, NoMemory>,
 }
 
-impl<S: System> Telling<'_, S> {
+impl<S: System> Telling<'_, '_, '_, S> {
     // Whether each failure so far was written.
     fn is_told(&self) -> bool {
         match self.told {
@@ -27,7 +27,7 @@ impl<S: System> Telling<'_, S> {
     }
 }
 
-impl<S: System> Onlooker for Telling<'_, S> {
+impl<S: System> Onlooker for Telling<'_, '_, '_, S> {
     fn goes_on(&mut self, schedules: u64, failures: u64) -> bool {
         if !self.is_told() {
             return false;
