@@ -2,7 +2,7 @@
 
 use crate::PROGRAM;
 use crate::job::HuntJob;
-use crate::progress::HuntProgress;
+use crate::progress::{HuntClock, HuntProgress};
 use crate::results::tell;
 use crate::telling::Telling;
 use crate::words::{Options, Search, WordFault, options_of};
@@ -91,10 +91,7 @@ fn way_of(job: &HuntJob<'_>) -> Result<Way, HuntStop> {
 }
 
 // Looks at the schedules of the options.
-fn hunt_by<S: System>(
-    job: &HuntJob<'_>,
-    telling: &mut Telling<'_, '_, '_, S>,
-) -> Result<Report, HuntStop> {
+fn hunt_by<S: System>(job: &HuntJob<'_>, telling: &mut Telling<'_, S>) -> Result<Report, HuntStop> {
     let options = job.options;
     if let Search::All(switches) = options.search {
         let bounds = Switching {
@@ -114,19 +111,24 @@ fn hunt_by<S: System>(
 }
 
 // Hunts in an image, and shows each failure when it is found.
-fn hunt_in<S: System>(
+fn hunt_in<'a, S: System>(
     job: &HuntJob<'_>,
-    progress: HuntProgress<'_>,
-    world: &mut World<S>,
+    names: &'a Names,
+    rt: &'a HostRuntime,
+    clock: HuntClock,
+    world: &'a mut World<S>,
 ) -> Result<(Report, u8), HuntStop> {
     let mut telling = Telling {
-        job: *job,
-        progress,
+        alloc: job.target.alloc,
+        names,
+        seconds: job.options.seconds,
+        rt,
+        clock,
         world,
         told: Ok(0),
     };
     let hunted = hunt_by(job, &mut telling);
-    telling.progress.clock.clear(telling.progress.rt);
+    telling.clock.clear(telling.rt);
     let report = hunted?;
     let status = telling.told?;
     Ok((report, status))
@@ -135,10 +137,12 @@ fn hunt_in<S: System>(
 // Hunts in an image, and shows what it comes to.
 fn hunt_and_tell<S: System>(
     job: &HuntJob<'_>,
-    progress: HuntProgress<'_>,
+    names: &Names,
+    rt: &HostRuntime,
+    clock: HuntClock,
     world: &mut World<S>,
 ) -> Result<u8, HuntStop> {
-    let (report, status) = hunt_in(job, progress, world)?;
+    let (report, status) = hunt_in(job, names, rt, clock, world)?;
     if status != 0 {
         return Ok(status);
     }
@@ -171,7 +175,7 @@ fn hunt_with<S: System>(
         },
         names: &names,
     };
-    match hunt_and_tell(&job, progress, world) {
+    match hunt_and_tell(&job, &names, progress.rt, progress.clock, world) {
         Ok(status) => status,
         Err(stop) => stopped(options.image, stop, world),
     }
