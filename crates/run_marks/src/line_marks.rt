@@ -143,6 +143,7 @@ fn push_line(
     }
 }
 
+#[inline(always)]
 #[tactic(auto, using(crate::proofs::Lemmas::numbered))]
 fn push_line_at(
     marks: &mut Vec<Mark>,
