@@ -1,13 +1,14 @@
 -- What is as it was has no marks.
-use Rattle.std.proofs.Common.{◌≡◌, ◌≢◌, inl, inr, ℕ, zero, suc, ◌+◌, ◌<◌, ◌≤◌, ◌⊎◌, List, [], ◌∷◌, ◌++◌, length, Bool, true, false, Option, Some, None, refl, sym, ap, subst, ◌∙◌, arith}
-use Rattle.std.specs.Prelude.{◌==◌, ◌&&◌, not, is_some, nat_le, nat_lt, option_map, slice_get}
+use Rattle.std.proofs.Common.{◌≡◌, ◌≢◌, inl, inr, ℕ, zero, suc, ◌<◌, ◌≤◌, ◌⊎◌, List, [], ◌++◌, length, Bool, true, false, Option, Some, None, refl, sym, ap, ◌∙◌, arith}
+use Rattle.std.specs.Prelude.{◌==◌, ◌&&◌, not, nat_le, nat_lt, option_map, slice_get}
 use Rattle.std.proofs.lemmas.Bool.{cases_eq}
 use Rattle.std.proofs.lemmas.List.{append-nil}
+use Rattle.std.proofs.lemmas.Option.{slice_get_past}
 use Rattle.std.proofs.lemmas.Bool.Decides.{nat_tests}
 use Rattle.evm_journal.specs.evm_core.Views.{line_counts_at, line_counts_of}
 use Rattle.evm_lines.specs.Lines.{has_line}
 use Rattle.evm_lines.specs.declared.TheConstants.{LINES}
-use Rattle.evm_model.proofs.Lists.{change-elsewhere, slice_get-below}
+use Rattle.evm_model.proofs.Lists.{change-elsewhere, same_elements, slice_get-below}
 use Rattle.evm_model.specs.Pipes.{Pipe, count_raise, raise}
 use Rattle.evm_model.specs.State.{Parts}
 use Rattle.evm_model.specs.declared.counts.Counts.{Counts}
@@ -20,7 +21,7 @@ use Rattle.evm_model.specs.declared.task.TaskState.TheVariants as states
 use Rattle.evm_model.specs.declared.task.Wait.{Wait}
 use Rattle.evm_model.specs.declared.task.Wait.TheVariants as waits
 use Rattle.run_marks.specs.Lists.{below}
-use Rattle.run_marks.specs.Marks.{deadline_marks, end_marks, equal_waits, is_wait, lane_marks, line_marks, lines_marks, marks_of, migrates_marks, moves_marks, notice_marks, one_task_marks, owner_in, owner_marks, pipe_marks, processor_marks, rank_marks, running_marks, same_bit, same_owner, same_running, same_stage, stall_marks, stop_marks, task_marks, task_stage, tick_marks, wait_of, waits_marks, when, woken_marks}
+use Rattle.run_marks.specs.Marks.{deadline_marks, end_marks, equal_waits, lane_marks, line_marks, lines_marks, marks_of, migrates_marks, moves_marks, notice_marks, one_task_marks, owner_in, owner_marks, pipe_marks, processor_marks, rank_marks, running_marks, same_bit, same_owner, same_stage, stall_marks, stop_marks, task_marks, task_stage, tick_marks, wait_of, waits_marks, woken_marks}
 use Rattle.run_marks.proofs.Following.{none_after, same_line, same_lines}
 use Rattle.run_marks.specs.Tallies.{IsTallyOf, OnlyRaises}
 use Rattle.run_marks.specs.declared.observation.Lane.{Lane}
@@ -183,11 +184,6 @@ unraised seen c was now none others =
     ) refl
 
 -- the marks of a line are those of all lines, where the counts of the others stand
-beyond : {X : Type 0} (xs : List X) (i : ℕ) → length xs ≤ i → slice_get xs i ≡ None
-beyond [] i h = refl
-beyond (x ∷ xs) zero h = absurd (omega (arith, h))
-beyond (x ∷ xs) (suc i) h = beyond xs i (omega (arith, h))
-
 none_there : (c l : ℕ) (o : Option Counts) → line_marks c l o None ≡ []
 unfolding line_marks
 none_there c l None = refl
@@ -200,7 +196,7 @@ one_line c l before after all others =
     let stays : (k : ℕ) → k ≢ l → f k ≡ [] = λ k other. rw (others k other) (same_line c k (slice_get before k)) in
     elim (less_or_not l LINES) [
       | inl less ↦ one_below f LINES l less stays
-      | inr not_there ↦ none_below f LINES (λ k less. stays k (λ e. absurd (omega (arith, less, e, not_there)))) ∙ sym (ap (line_marks c l (slice_get before l)) (beyond after l (omega (arith, all, not_there))) ∙ none_there c l (slice_get before l))
+      | inr not_there ↦ none_below f LINES (λ k less. stays k (λ e. absurd (omega (arith, less, e, not_there)))) ∙ sym (ap (line_marks c l (slice_get before l)) (slice_get_past after l (omega (arith, all, not_there))) ∙ none_there c l (slice_get before l))
     ]
   where
     less_or_not : (n m : ℕ) → (n < m) ⊎ (m ≤ n)
@@ -244,3 +240,21 @@ line_raised seen c l rows row counts was now count pipes full is only at there =
         let counts_are : counts ≡ (raise l p).counts = (let two : Some counts ≡ Some (raise l p).counts = sym there ∙ ap line_counts_of now_there in cc) in
         let less : c < seen.cpu_count = (let h = slice_get-below now.pipes c (raise l p) now_there in omega (arith, h, pipes, count)) in
         raised seen c was now less only.others ∙ rw (e, now_there, row_is, counts_are) (one_line c l p.counts (raise l p).counts (full (raise l p) now_there) (λ k other. elsewhere l k p other))
+
+-- what is kept of that line is all that changed
+pub kept_line : (c l : ℕ) (rows later : List (List Counts)) (row counts : List Counts) (was now : Parts) → IsTallyOf rows was → OnlyRaises c l was now → slice_get rows c ≡ Some row → line_counts_at c now ≡ Some counts
+    → ((row : List Counts) → slice_get rows c ≡ Some row → (kept : List Counts) × (slice_get later c ≡ Some kept) × (slice_get kept l ≡ slice_get counts l) × ((k : ℕ) → k ≢ l → slice_get kept k ≡ slice_get row k))
+    → slice_get later c ≡ Some counts
+kept_line c l rows later row counts was now is only at there keeps = by (slice_get was.pipes c) refl
+  where
+    by : (o : Option Pipe) → slice_get was.pipes c ≡ o → slice_get later c ≡ Some counts
+    by None e = let none : line_counts_at c now ≡ None = ap line_counts_of (only.here ∙ ap (option_map (raise l)) e) in let no : Some counts ≡ None = sym there ∙ none in absurd cc
+    by (Some p) e =
+        let k = keeps row at in
+        let row_is : row ≡ p.counts = (let two : Some row ≡ Some p.counts = sym at ∙ is c p e in cc) in
+        let counts_are : counts ≡ (raise l p).counts = (let two : Some counts ≡ Some (raise l p).counts = sym there ∙ ap line_counts_of (only.here ∙ ap (option_map (raise l)) e) in cc) in
+        let same : k.0 ≡ counts = same_elements k.0 counts (λ i. elim (cases_eq i l) [
+          | inl here ↦ ap (slice_get k.0) here ∙ k.2 ∙ ap (slice_get counts) (sym here)
+          | inr other ↦ k.3 i other ∙ ap (λ x. slice_get x i) row_is ∙ sym (elsewhere l i p other) ∙ ap (λ x. slice_get x i) (sym counts_are)
+        ]) in
+        k.1 ∙ ap Some same

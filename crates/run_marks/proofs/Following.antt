@@ -106,18 +106,11 @@ marked : (n : ℕ) (row counts : List Counts) (was now : Parts) (p q : Pipe) →
     → pipe_marks n (line_counts_at n was) (line_counts_at n now) ≡ lines_marks n row counts
 marked n row counts was now p q before after a b = rw (before, after, a, b) refl
 
-pub left : (n : ℕ) (rows : List (List Counts)) (row counts : List Counts) (was now : Parts) (reach : Reach) → IsTallyUpTo n rows was now → IsWithinReach reach was now → slice_get rows n ≡ Some row
-    → line_counts_at n now ≡ Some counts
-    → ((p q : Pipe) → slice_get was.pipes n ≡ Some p → slice_get now.pipes n ≡ Some q → p.counts ≡ row → q.counts ≡ counts → counts ≡ row)
-    → (pipe_marks n (line_counts_at n was) (line_counts_at n now) ≡ []) × IsTallyUpTo (n + 1) rows was now
-left n rows row counts was now reach is far at after stands =
-    let s = seen n rows row counts was now reach is far at after in
-    let p = s.0 in let q = s.1.0 in let before = s.1.1.0 in let there = s.1.1.1.0 in let a = s.1.1.1.1.0 in let b = s.1.1.1.1.1 in
-    let same = stands p q before there a b in (
-      marked n row counts was now p q before there a b ∙ ap (lines_marks n row) same ∙ same_lines n row,
-      advance n rows rows was now is (λ d other. refl)
-          (λ pipe k. let e : Some pipe ≡ Some q = sym k ∙ there in let alike : pipe ≡ q = cc in at ∙ ap Some (sym same ∙ sym b) ∙ ap (λ (x : Pipe). Some x.counts) (sym alike)),
-    )
+-- what follows from how the counts of its pipe differ
+pub differ : (n : ℕ) (rows : List (List Counts)) (row counts : List Counts) (was now : Parts) (reach : Reach) (P : Type 0) → IsTallyUpTo n rows was now → IsWithinReach reach was now → slice_get rows n ≡ Some row
+    → line_counts_at n now ≡ Some counts → ((p q : Pipe) → slice_get was.pipes n ≡ Some p → slice_get now.pipes n ≡ Some q → p.counts ≡ row → q.counts ≡ counts → P) → P
+differ n rows row counts was now reach P is far at after f =
+    let s = seen n rows row counts was now reach is far at after in f s.0 s.1.0 s.1.1.0 s.1.1.1.0 s.1.1.1.1.0 s.1.1.1.1.1
 
 pub kept : (n : ℕ) (rows later : List (List Counts)) (row counts : List Counts) (was now : Parts) (reach : Reach) → IsTallyUpTo n rows was now → IsWithinReach reach was now → slice_get rows n ≡ Some row
     → line_counts_at n now ≡ Some counts → slice_get later n ≡ Some counts → ((d : ℕ) → d ≢ n → slice_get later d ≡ slice_get rows d)

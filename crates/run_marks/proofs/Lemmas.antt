@@ -23,3 +23,8 @@ chained (Err e) old mid new x y z h f g = tt
 pub stepped : {X : Type 0} → (f : ℕ → List X) (n : ℕ) (old mid new x : List X) → mid ≡ old ++ below f n → new ≡ mid ++ x → x ≡ f n → new ≡ old ++ below f (n + 1)
 stepped f n old mid new x e g h =
     g ∙ ap (λ l. l ++ x) e ∙ append_assoc old (below f n) x ∙ ap (λ l. old ++ (below f n ++ l)) h ∙ ap (λ l. old ++ l) (sym (below-more f n))
+
+-- what follows from what holds where there is no error
+pub then : {A E : Type 0} (P Q : Type 0) (r : Result A E) → (P → Q) → OnOk r P → OnOk r Q
+then P Q (Ok a) f p = f p
+then P Q (Err e) f p = p

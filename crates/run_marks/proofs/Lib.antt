@@ -1,3 +1,4 @@
 pub mod Alike
 pub mod Following
 pub mod Lemmas
+pub mod Sets

@@ -12,5 +12,5 @@ pub use line_marks::push_raise;
 pub use mark::Mark;
 pub use marking::marks;
 pub use observation::{Lane, Observation, Running};
-pub use tally::{Reach, Stepped, Tally, is_calm, reach_of};
+pub use tally::{Reach, Stepped, Tally, reach_of, waiting_lines};
 pub use task_marks::equal_waits;

@@ -1,20 +1,22 @@
 //! The marks of the lines of one processor.
 
-ghost use Rattle.std.specs.Prelude.{◌≡◌, ◌+◌, ◌++◌, ◌-◌, ◌<◌, ℕ, [], OnOk, Option, true, false, length, nat_lt, option_copied, slice_get};
+ghost use Rattle.std.specs.Prelude.{◌≡◌, ◌≢◌, ◌+◌, ◌++◌, ◌-◌, ◌<◌, ℕ, [], IfSome, List, OnOk, Option, false, length, nat_lt, option_copied, slice_get};
 ghost use Rattle.evm_journal.specs.evm_core.Views.{line_counts_at};
+ghost use Rattle.evm_lines.specs.declared.TheConstants.{LINES as LINE_LIMIT};
 ghost use Rattle.evm_model.specs.Pipes.{Pipe};
 ghost use Rattle.evm_model.specs.State.{Parts};
+ghost use Rattle.evm_model.specs.declared.counts.Counts as count;
 ghost use Rattle.evm_model.specs.declared.limits.TheConstants.{PROCESSOR_LIMIT as PROCESSORS};
 ghost use Rattle.run_marks.specs.Marks.{counted_marks, line_marks, lines_marks, marks_of, pipe_marks, when};
 ghost use Rattle.run_marks.specs.declared.observation.Observation.{Observation};
-ghost use Rattle.run_marks.specs.Tallies.{IsTallyOf, IsTallyUpTo, IsWithinReach, OnlyRaises, StandUnlessOnWire, StandUnlessRaised, StepLeaves};
+ghost use Rattle.run_marks.specs.Tallies.{DifferAt, IsTallyOf, IsTallyUpTo, IsWithinReach, OnlyRaises, StepLeaves};
 
 use crate::mark::Mark;
 use crate::marking::push_when;
-use crate::tally::{Reach, Stepped, Tally, has_clear_wire, same_raised};
+use crate::tally::{Reach, Stepped, Tally, wire_lines, with_raised};
 use evm_dev::Device;
 use evm_journal::Machine;
-use evm_lines::LINES;
+use evm_lines::{LINES, LineSet};
 use evm_model::{Counts, Stage};
 use evm_room::Refused;
 
@@ -173,54 +175,72 @@ fn push_lines(
     Ok(())
 }
 
-// Whether a Step of another processor leaves the counts of this one, which were these.
-fn is_left_beside<D: Device>(
-    cpu: u8,
-    machine: &Machine<D>,
-    before: &[Counts],
-    after: &[Counts],
-) -> bool
-    ensures { (was : Parts) (p : Pipe) (q : Pipe) → result ≡ true → StandUnlessOnWire cpu was machine.now.board.parts → StandUnlessRaised cpu was machine.now.board.parts → slice_get was.pipes cpu ≡ Option.Some p → slice_get machine.now.board.parts.pipes cpu ≡ Option.Some q → p.counts ≡ before.now → q.counts ≡ after.now → after.now ≡ before.now }
+// Those lines of a processor whose counts its own Step may have changed; they were these.
+fn own_lines(step: &Stepped, before: &[Counts], after: &[Counts]) -> LineSet
+    ensures { (was : Parts) (now : Parts) (p : Pipe) (q : Pipe) → StepLeaves step.now was now → slice_get was.pipes step.now.cpu ≡ Option.Some p → slice_get now.pipes step.now.cpu ≡ Option.Some q → p.counts ≡ before.now → q.counts ≡ after.now → DifferAt result before.now after.now }
 {
-    if has_clear_wire(machine, cpu) {
-        true
+    // devices raise their lines on processor 0
+    if step.cpu == 0 {
+        with_raised(step.waiting, before, after)
     } else {
-        same_raised(before, after)
+        step.waiting
     }
 }
 
-// Whether a Step leaves the counts of a processor, which were these.
-fn is_left_by<D: Device>(
-    step: Stepped,
+// Those lines of a processor whose counts a Step may have changed; they were these.
+fn step_lines<D: Device>(
+    step: &Stepped,
     cpu: u8,
     machine: &Machine<D>,
     before: &[Counts],
     after: &[Counts],
-) -> bool
-    ensures { (was : Parts) (p : Pipe) (q : Pipe) → result ≡ true → StepLeaves step was machine.now.board.parts → slice_get was.pipes cpu ≡ Option.Some p → slice_get machine.now.board.parts.pipes cpu ≡ Option.Some q → p.counts ≡ before.now → q.counts ≡ after.now → after.now ≡ before.now }
+) -> LineSet
+    ensures { (was : Parts) (p : Pipe) (q : Pipe) → StepLeaves step.now was machine.now.board.parts → slice_get was.pipes cpu ≡ Option.Some p → slice_get machine.now.board.parts.pipes cpu ≡ Option.Some q → p.counts ≡ before.now → q.counts ≡ after.now → DifferAt result before.now after.now }
 {
     if cpu == step.cpu {
-        step.calm && same_raised(before, after)
+        own_lines(step, before, after)
     } else {
-        is_left_beside(cpu, machine, before, after)
+        wire_lines(machine, cpu)
     }
 }
 
-// Whether an event that reaches so far leaves the counts of a processor, which were these.
-fn is_left<D: Device>(
-    reach: Reach,
+// Those lines of a processor whose counts an event that reaches so far may have changed; they were these. None: it may be all.
+fn touched_lines<D: Device>(
+    reach: &Reach,
     cpu: u8,
     machine: &Machine<D>,
     before: &[Counts],
     after: &[Counts],
-) -> bool
-    ensures { (was : Parts) (p : Pipe) (q : Pipe) → result ≡ true → IsWithinReach reach was machine.now.board.parts → slice_get was.pipes cpu ≡ Option.Some p → slice_get machine.now.board.parts.pipes cpu ≡ Option.Some q → p.counts ≡ before.now → q.counts ≡ after.now → after.now ≡ before.now }
+) -> Option<LineSet>
+    ensures { IfSome result (λ lines. (was : Parts) (p : Pipe) (q : Pipe) → IsWithinReach reach.now was machine.now.board.parts → slice_get was.pipes cpu ≡ Option.Some p → slice_get machine.now.board.parts.pipes cpu ≡ Option.Some q → p.counts ≡ before.now → q.counts ≡ after.now → DifferAt lines before.now after.now) }
 {
     match reach {
-        Reach::ByLine(acting, _) => cpu != acting,
-        Reach::ByStep(step) => is_left_by(step, cpu, machine, before, after),
-        Reach::All => false,
+        Reach::ByLine(acting, _) if cpu != *acting => Some(LineSet::new()),
+        Reach::ByStep(step) => Some(step_lines(step, cpu, machine, before, after)),
+        Reach::ByLine(_, _) | Reach::All => None,
     }
+}
+
+// Appends the marks of some lines of a processor, and keeps their counts.
+fn push_touched(
+    marks: &mut Vec<Mark>,
+    cpu: u8,
+    lines: LineSet,
+    tally: &mut Tally,
+    counts: &[Counts],
+) -> Result<(), Refused>
+    requires cpu { cpu < PROCESSORS }
+    requires counts { length counts.now ≡ LINE_LIMIT }
+    ensures ok { (row : List count.Counts) → slice_get tally.old.rows cpu ≡ Option.Some row → length row ≡ LINE_LIMIT → DifferAt lines row counts.now → OnOk result ((marks.new.items ≡ marks.old.items ++ lines_marks cpu row counts.now) × (slice_get tally.new.rows cpu ≡ Option.Some counts.now)) }
+    ensures others { (d : ℕ) → d ≢ cpu → slice_get tally.new.rows d ≡ slice_get tally.old.rows d }
+{
+    let _least = lines.first();
+    let mut left = lines;
+    'lines: while let Some(touched) = left.pop() {
+        push_line_at(marks, cpu, touched, tally.row(cpu), counts)?;
+        tally.keep_line(cpu, touched, counts);
+    }
+    Ok(())
 }
 
 /// Appends the marks of a processor's lines after an event that reaches so far, and keeps their counts.
@@ -229,24 +249,26 @@ pub(crate) fn push_pipe<D: Device>(
     cpu: u8,
     tally: &mut Tally,
     machine: &Machine<D>,
-    reach: Reach,
+    reach: &Reach,
 ) -> Result<(), Refused>
     requires { cpu < PROCESSORS }
-    ensures { (was : Parts) → IsTallyUpTo cpu tally.old.rows was machine.now.board.parts → IsWithinReach reach was machine.now.board.parts → OnOk result ((marks.new.items ≡ marks.old.items ++ pipe_marks cpu (line_counts_at cpu was) (line_counts_at cpu machine.now.board.parts)) × IsTallyUpTo (cpu + 1) tally.new.rows was machine.now.board.parts) }
+    ensures { (was : Parts) → IsTallyUpTo cpu tally.old.rows was machine.now.board.parts → IsWithinReach reach.now was machine.now.board.parts → OnOk result ((marks.new.items ≡ marks.old.items ++ pipe_marks cpu (line_counts_at cpu was) (line_counts_at cpu machine.now.board.parts)) × IsTallyUpTo (cpu + 1) tally.new.rows was machine.now.board.parts) }
 {
     machine.rules();
     let Some(counts) = machine.line_counts(cpu) else {
         return Ok(());
     };
-    if is_left(reach, cpu, machine, tally.row(cpu), counts) {
-        return Ok(());
+    match touched_lines(reach, cpu, machine, tally.row(cpu), counts) {
+        Some(lines) => push_touched(marks, cpu, lines, tally, counts),
+        None => {
+            push_lines(marks, cpu, tally.row(cpu), counts)?;
+            tally.keep(cpu, counts);
+            Ok(())
+        }
     }
-    push_lines(marks, cpu, tally.row(cpu), counts)?;
-    tally.keep(cpu, counts);
-    Ok(())
 }
 
-/// Appends the marks of a line that an event raised, which changed nothing else, and keeps the counts of its processor.
+/// Appends the marks of a line that an event raised, which changed nothing else, and keeps its counts.
 pub fn push_raise<D: Device>(
     marks: &mut Vec<Mark>,
     tally: &mut Tally,
@@ -262,6 +284,6 @@ pub fn push_raise<D: Device>(
         return Ok(());
     };
     push_line_at(marks, cpu, line, tally.row(cpu), counts)?;
-    tally.keep(cpu, counts);
+    tally.keep_line(cpu, line, counts);
     Ok(())
 }

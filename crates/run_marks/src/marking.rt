@@ -147,10 +147,10 @@ fn push_processor<D: Device>(
     after: &Observation,
     tally: &mut Tally,
     machine: &Machine<D>,
-    reach: Reach,
+    reach: &Reach,
 ) -> Result<(), Refused>
     requires { cpu < PROCESSORS }
-    ensures { (was : Parts) → IsTallyUpTo cpu tally.old.rows was machine.now.board.parts → IsWithinReach reach was machine.now.board.parts → OnOk result ((marks.new.items ≡ marks.old.items ++ processor_marks before.now after.now was machine.now.board.parts cpu) × IsTallyUpTo (cpu + 1) tally.new.rows was machine.now.board.parts) }
+    ensures { (was : Parts) → IsTallyUpTo cpu tally.old.rows was machine.now.board.parts → IsWithinReach reach.now was machine.now.board.parts → OnOk result ((marks.new.items ≡ marks.old.items ++ processor_marks before.now after.now was machine.now.board.parts cpu) × IsTallyUpTo (cpu + 1) tally.new.rows was machine.now.board.parts) }
 {
     let at = usize::from(cpu);
     push_lane(
@@ -168,10 +168,10 @@ fn push_processors<D: Device>(
     after: &Observation,
     tally: &mut Tally,
     machine: &Machine<D>,
-    reach: Reach,
+    reach: &Reach,
 ) -> Result<(), Refused>
     requires { after.now.cpu_count ≡ length machine.now.board.parts.processors }
-    ensures { (was : Parts) → IsTallyOf tally.old.rows was → IsWithinReach reach was machine.now.board.parts → OnOk result ((marks.new.items ≡ marks.old.items ++ below (processor_marks before.now after.now was machine.now.board.parts) after.now.cpu_count) × IsTallyOf tally.new.rows machine.now.board.parts) }
+    ensures { (was : Parts) → IsTallyOf tally.old.rows was → IsWithinReach reach.now was machine.now.board.parts → OnOk result ((marks.new.items ≡ marks.old.items ++ below (processor_marks before.now after.now was machine.now.board.parts) after.now.cpu_count) × IsTallyOf tally.new.rows machine.now.board.parts) }
 {
     machine.rules();
     for cpu in 0..after.cpu_count {
@@ -272,10 +272,10 @@ pub fn marks<D: Device>(
     after: &Observation,
     tally: &mut Tally,
     machine: &Machine<D>,
-    reach: Reach,
+    reach: &Reach,
 ) -> Result<(), Refused>
     requires { after.now.cpu_count ≡ length machine.now.board.parts.processors }
-    ensures { (was : Parts) → IsTallyOf tally.old.rows was → IsWithinReach reach was machine.now.board.parts → OnOk result ((marks.new.items ≡ marks.old.items ++ marks_of before.now after.now was machine.now.board.parts) × IsTallyOf tally.new.rows machine.now.board.parts) }
+    ensures { (was : Parts) → IsTallyOf tally.old.rows was → IsWithinReach reach.now was machine.now.board.parts → OnOk result ((marks.new.items ≡ marks.old.items ++ marks_of before.now after.now was machine.now.board.parts) × IsTallyOf tally.new.rows machine.now.board.parts) }
 {
     push_ticks(marks, before.ticks, after.ticks)?;
     push_processors(marks, before, after, tally, machine, reach)?;

@@ -1,23 +1,24 @@
 //! The counts of the lines as they were last looked at, and how far an event reaches.
 
-ghost use Rattle.std.specs.Prelude.{◌≡◌, ◌≢◌, ◌<◌, ℕ, Option, length, slice_get, true};
+ghost use Rattle.std.specs.Prelude.{◌≡◌, ◌≢◌, ◌<◌, ℕ, List, Option, false, true, length, slice_get};
+ghost use Rattle.evm_lines.specs.Lines.{has_line};
 ghost use Rattle.evm_lines.specs.declared.TheConstants.{LINES as LINE_LIMIT};
 ghost use Rattle.evm_model.specs.Pipes.{Pipe};
+ghost use Rattle.evm_model.specs.declared.counts.Counts as count;
 ghost use Rattle.evm_model.specs.declared.limits.TheConstants.{PROCESSOR_LIMIT as PROCESSORS};
-ghost use Rattle.evm_journal.specs.evm_core.Views.{stages_in};
-ghost use Rattle.run_marks.specs.Tallies.{is_calm, has_clear_wire, reach_of, IsTallyOf, SameRaised};
+ghost use Rattle.run_marks.specs.Tallies.{belongs_to_devices, reach_of, waits_in, IsTallyOf, SameRaised};
 
 use evm_dev::Device;
 use evm_journal::{Machine, Stages};
-use evm_lines::LINE_COUNT;
-use evm_model::{Counts, Event, PROCESSOR_LIMIT, Passage};
+use evm_lines::{LINE_COUNT, LineSet};
+use evm_model::{Counts, DEVICE_LIMIT, DEVICE_LINE, Event, PROCESSOR_LIMIT, Passage};
 
 /// A Step of a processor.
 #[derive(Clone, Copy)]
 pub struct Stepped {
     pub cpu: u8,
-    /// No line waited for the processor before, on its wire or in a log.
-    pub calm: bool,
+    /// The lines that waited for the processor before, on its wire or in a log.
+    pub waiting: LineSet,
 }
 
 /// How far an event reaches.
@@ -25,18 +26,18 @@ pub struct Stepped {
 pub enum Reach {
     /// It only raises this line of this processor.
     ByLine(u8, u8),
-    /// It is a Step, which only raises lines of other processors.
+    /// It is a Step, which changes counts of the lines that waited, and raises lines.
     ByStep(Stepped),
     /// It may change the counts of every processor.
     All,
 }
 
-/// How far an event reaches; `calm` says of a Step whether no line waited for its processor.
-pub fn reach_of(event: &Event<u8>, calm: bool) -> Reach
-    ensures { result ≡ reach_of event.now calm }
+/// How far an event reaches; `waiting` has the lines that waited for the processor of a Step.
+pub fn reach_of(event: &Event<u8>, waiting: LineSet) -> Reach
+    ensures { result ≡ reach_of event.now waiting }
 {
     match event {
-        Event::Step(cpu) => Reach::ByStep(Stepped { cpu: *cpu, calm }),
+        Event::Step(cpu) => Reach::ByStep(Stepped { cpu: *cpu, waiting }),
         Event::Raise(cpu, line) | Event::Bell(cpu, line) => Reach::ByLine(*cpu, *line),
         Event::Tick
         | Event::Stop(_)
@@ -70,6 +71,16 @@ const NO_COUNTS: Counts = Counts {
     in_band: NO_PASSAGE,
 };
 
+// The counts of a line are those that it has here.
+fn copy_line(row: &mut [Counts], line: u8, counts: &[Counts])
+    requires row { line < length row.old }
+    requires counts { line < length counts.now }
+    ensures here { slice_get row.new line ≡ slice_get counts.now line }
+    ensures others { (l : ℕ) → l ≢ line → slice_get row.new l ≡ slice_get row.old l }
+{
+    row[usize::from(line)] = counts[usize::from(line)];
+}
+
 impl Tally {
     /// Nothing is counted yet.
     pub fn new() -> Tally {
@@ -81,7 +92,8 @@ impl Tally {
     /// The counts of processor c.
     pub(crate) fn row(&self, c: u8) -> &[Counts]
         requires { c < PROCESSORS }
-        ensures { slice_get self.now.rows c ≡ Option.Some result.now }
+        ensures here { slice_get self.now.rows c ≡ Option.Some result.now }
+        ensures lines { length result.now ≡ LINE_LIMIT }
     {
         &self.rows[usize::from(c)]
     }
@@ -94,6 +106,18 @@ impl Tally {
         ensures others { (d : ℕ) → d ≢ c → slice_get self.new.rows d ≡ slice_get self.old.rows d }
     {
         self.rows[usize::from(c)].copy_from_slice(counts);
+    }
+
+    /// The counts of a line of processor c are those that it has here.
+    pub(crate) fn keep_line(&mut self, c: u8, line: u8, counts: &[Counts])
+        requires row { c < PROCESSORS }
+        requires lines { length counts.now ≡ LINE_LIMIT }
+        ensures here { (row : List count.Counts) → slice_get self.old.rows c ≡ Option.Some row → (new : List count.Counts) × (slice_get self.new.rows c ≡ Option.Some new) × (slice_get new line ≡ slice_get counts.now line) × ((l : ℕ) → l ≢ line → slice_get new l ≡ slice_get row l) }
+        ensures others { (d : ℕ) → d ≢ c → slice_get self.new.rows d ≡ slice_get self.old.rows d }
+    {
+        if usize::from(line) < self.row(c).len() {
+            copy_line(&mut self.rows[usize::from(c)], line, counts);
+        }
     }
 
     // Looks at processor c.
@@ -119,43 +143,62 @@ impl Tally {
     }
 }
 
-/// Whether no line is on a processor's wire.
-pub(crate) fn has_clear_wire<D: Device>(machine: &Machine<D>, cpu: u8) -> bool
-    ensures { (pipe : Pipe) → result ≡ true → slice_get machine.now.board.parts.pipes cpu ≡ Option.Some pipe → has_clear_wire pipe ≡ true }
+// The lines of one set, and those of another.
+fn joined(one: LineSet, other: LineSet) -> LineSet
+    ensures one { (l : ℕ) → l < LINE_LIMIT → has_line one l ≡ true → has_line result l ≡ true }
+    ensures other { (l : ℕ) → l < LINE_LIMIT → has_line other l ≡ true → has_line result l ≡ true }
 {
-    match machine.wire(cpu) {
-        None => false,
-        Some(wire) => wire.first().is_none(),
+    let mut all = one;
+    let mut left = other;
+    'lines: while let Some(line) = left.pop() {
+        all.insert(line);
     }
+    all
 }
 
-// Whether no line is on the wire or in a log.
-fn none_waits(stages: &Stages) -> bool
-    ensures { (pipe : Pipe) → stages_in (Option.Some pipe) ≡ Option.Some stages.now → result ≡ is_calm (Option.Some pipe) }
-{
-    stages.wire.first().is_none()
-        && stages.oob.lines.first().is_none()
-        && stages.in_band.lines.first().is_none()
-}
-
-/// Whether no line waits for a processor: none is on its wire or in a log.
-pub fn is_calm<D: Device>(machine: &Machine<D>, cpu: u8) -> bool
-    ensures { result ≡ is_calm (slice_get machine.now.board.parts.pipes cpu) }
+/// The lines that wait for a processor, on its wire or in a log.
+pub fn waiting_lines<D: Device>(machine: &Machine<D>, cpu: u8) -> LineSet
+    ensures { (l : ℕ) → l < LINE_LIMIT → waits_in l (slice_get machine.now.board.parts.pipes cpu) ≡ true → has_line result l ≡ true }
 {
     match machine.stages(cpu) {
-        None => false,
-        Some(stages) => none_waits(&stages),
+        None => LineSet::new(),
+        Some(stages) => joined(joined(stages.wire, stages.oob.lines), stages.in_band.lines),
     }
 }
 
-/// Whether no line was raised more often in one than in the other.
-pub(crate) fn same_raised(before: &[Counts], after: &[Counts]) -> bool
-    ensures { result ≡ true → SameRaised before.now after.now }
+/// The lines that are on a processor's wire.
+pub(crate) fn wire_lines<D: Device>(machine: &Machine<D>, cpu: u8) -> LineSet
+    ensures { (pipe : Pipe) → slice_get machine.now.board.parts.pipes cpu ≡ Option.Some pipe → result ≡ pipe.wire }
 {
-    for (one, two) in before.iter().zip(after) {
-        if one.raised != two.raised {
-            return false;
+    match machine.wire(cpu) {
+        None => LineSet::new(),
+        Some(wire) => wire,
+    }
+}
+
+// Whether a line was raised as often in one as in the other.
+#[inline(always)]
+fn same_raised(line: u8, before: &[Counts], after: &[Counts]) -> bool
+    ensures { result ≡ true → SameRaised line before.now after.now }
+{
+    let at = usize::from(line);
+    match (before.get(at), after.get(at)) {
+        (Some(one), Some(two)) => one.raised == two.raised,
+        _ => true,
+    }
+}
+
+/// Some lines, and those lines of devices that were raised more often in one than in the other.
+pub(crate) fn with_raised(lines: LineSet, before: &[Counts], after: &[Counts]) -> LineSet
+    ensures lines { (l : ℕ) → l < LINE_LIMIT → has_line lines l ≡ true → has_line result l ≡ true }
+    ensures raised { (l : ℕ) → belongs_to_devices l ≡ true → has_line result l ≡ false → SameRaised l before.now after.now }
+{
+    let mut all = lines;
+    for device in 0..DEVICE_LIMIT {
+        let line = DEVICE_LINE + device as u8;
+        if !same_raised(line, before, after) {
+            all.insert(line);
         }
     }
-    true
+    all
 }

@@ -1,6 +1,6 @@
-pub mod Calm
 pub mod Found
 pub mod Observing
+pub mod Own
 pub mod Quietly
 pub mod Reaching
 pub mod Stepping

@@ -15,7 +15,7 @@ use Rattle.evm_model.specs.declared.task.Task.{Task}
 use Rattle.run_marks.specs.Lists.{below}
 use Rattle.run_marks.specs.Observations.{IsObservationOf, lane_at, lane_of, rank_at, rank_seen, running_of}
 use Rattle.run_walk.specs.Quiet.{OnlyRuns}
-use Rattle.run_walk.specs.Observers.{IsCalmFor, IsObserverOf}
+use Rattle.run_walk.specs.Observers.{AreWaitingFor, IsObserverOf}
 use Rattle.run_marks.specs.Tallies.{reach_of, IsWithinReach, OnlyRaises}
 use Rattle.run_walk.specs.Walks.{IsApplied}
 use Rattle.run_marks.specs.declared.observation.Observation.{Observation}
@@ -61,10 +61,10 @@ other-harts observer k harts is = record {
 pub still-seen : (observer : Observer) (old new : Board) → OnlyRuns old new → IsObserverOf observer old.parts → IsObserverOf observer new.parts
 still-seen observer old new runs is = subst (λ (k : Parts). IsObserverOf observer k) (sym runs.parts) (other-harts observer old.parts new.parts.harts is)
 
-pub applied-within : (told : EventOf ℕ) (calm : Bool) (old new : State) → GoodState old → IsCalmFor told calm old.board.parts → IsApplied told old new → IsWithinReach (reach_of told calm) old.board.parts new.board.parts
-applied-within told calm old new good before is =
-    subst (λ (e : EventOf ℕ). IsWithinReach (reach_of e calm) old.board.parts new.board.parts) is.outlined
-    (within is.event calm old new is.answer good (subst (λ (e : EventOf ℕ). IsCalmFor e calm old.board.parts) (sym is.outlined) before) is.applied)
+pub applied-within : (told : EventOf ℕ) (waiting : List ℕ) (old new : State) → GoodState old → AreWaitingFor told waiting old.board.parts → IsApplied told old new → IsWithinReach (reach_of told waiting) old.board.parts new.board.parts
+applied-within told waiting old new good before is =
+    subst (λ (e : EventOf ℕ). IsWithinReach (reach_of e waiting) old.board.parts new.board.parts) is.outlined
+    (within is.event waiting old new is.answer good (subst (λ (e : EventOf ℕ). AreWaitingFor e waiting old.board.parts) (sym is.outlined) before) is.applied)
 
 -- ---- what doesn't look at wires and counts
 raised-stall : (stage : Stage) (l : ℕ) (o : Option Pipe) → stalled_pipe stage (option_map (raise l) o) ≡ stalled_pipe stage o

@@ -6,13 +6,14 @@ ghost use Rattle.evm_model.specs.Good.{GoodState};
 ghost use Rattle.evm_model.specs.State.{Parts, State};
 ghost use Rattle.run_marks.specs.Marks.{AreMarks};
 ghost use Rattle.evm_model.specs.declared.limits.TheConstants.{PROCESSOR_LIMIT as PROCESSORS};
-ghost use Rattle.run_walk.specs.Observers.{IsCalmFor, IsObserverOf};
+ghost use Rattle.run_walk.specs.Observers.{AreWaitingFor, IsObserverOf};
 ghost use Rattle.run_marks.specs.Tallies.{IsWithinReach, OnlyRaises};
 ghost use Rattle.run_walk.specs.Walks.{IsLedBy, IsMarkedAs};
 
 use crate::item::Item;
 use evm_dev::Device;
 use evm_journal::Machine;
+use evm_lines::LineSet;
 use evm_model::PROCESSOR_LIMIT;
 use evm_room::Refused;
 use run_marks::{Mark, Observation, Reach, Tally, marks, push_raise, reach_of};
@@ -30,11 +31,11 @@ pub struct Observer {
 }
 
 // The line that an event raises which does nothing else, and its processor.
-fn raised_line(reach: Reach) -> Option<(u8, u8)>
-    ensures { IfSome result (λ it. (reach ≡ Reach.ByLine it.0 it.1) × (it.0 < PROCESSORS)) }
+fn raised_line(reach: &Reach) -> Option<(u8, u8)>
+    ensures { IfSome result (λ it. (reach.now ≡ Reach.ByLine it.0 it.1) × (it.0 < PROCESSORS)) }
 {
     match reach {
-        Reach::ByLine(cpu, line) if usize::from(cpu) < PROCESSOR_LIMIT => Some((cpu, line)),
+        Reach::ByLine(cpu, line) if usize::from(*cpu) < PROCESSOR_LIMIT => Some((*cpu, *line)),
         _ => None,
     }
 }
@@ -75,12 +76,12 @@ impl Observer {
         &mut self,
         found: &mut Vec<Mark>,
         machine: &Machine<D>,
-        reach: Reach,
+        reach: &Reach,
     ) -> Result<(), Refused>
         requires { found.old.items ≡ [] }
-        ensures seen { (was : Parts) → IsObserverOf self.old was → IsWithinReach reach was machine.now.board.parts → OnOk result (IsObserverOf self.new machine.now.board.parts) }
+        ensures seen { (was : Parts) → IsObserverOf self.old was → IsWithinReach reach.now was machine.now.board.parts → OnOk result (IsObserverOf self.new machine.now.board.parts) }
         ensures fresh { self.new.fresh ≡ self.old.fresh }
-        ensures marks { (was : Parts) → IsObserverOf self.old was → IsWithinReach reach was machine.now.board.parts → OnOk result (AreMarks was machine.now.board.parts found.new.items) }
+        ensures marks { (was : Parts) → IsObserverOf self.old was → IsWithinReach reach.now was machine.now.board.parts → OnOk result (AreMarks was machine.now.board.parts found.new.items) }
     {
         self.after.see(machine)?;
         marks(
@@ -111,26 +112,26 @@ impl Observer {
         push_raise(found, &mut self.tally, machine, cpu, line)
     }
 
-    /// Appends the marks of an item, which led the machine here from the one that was seen before. `calm` says of a Step that no line
-    /// waited for its processor.
+    /// Appends the marks of an item, which led the machine here from the one that was seen before. `waiting` has the lines that waited
+    /// for the processor of a Step.
     pub(crate) fn tell<D: Device>(
         &mut self,
         found: &mut Vec<Mark>,
         machine: &Machine<D>,
         item: &Item,
-        calm: bool,
+        waiting: LineSet,
     ) -> Result<(), Refused>
         requires { found.old.items ≡ [] }
-        ensures ok { (was : State) → GoodState was → IsObserverOf self.old was.board.parts → IsCalmFor item.now.event calm was.board.parts → IsLedBy item.now was machine.now → OnOk result (IsObserverOf self.new machine.now.board.parts × IsMarkedAs item.now.quiet was machine.now found.new.items) }
+        ensures ok { (was : State) → GoodState was → IsObserverOf self.old was.board.parts → AreWaitingFor item.now.event waiting was.board.parts → IsLedBy item.now was machine.now → OnOk result (IsObserverOf self.new machine.now.board.parts × IsMarkedAs item.now.quiet was machine.now found.new.items) }
         ensures fresh { self.new.fresh ≡ self.old.fresh }
     {
         if item.quiet {
             return Ok(());
         }
-        let reach = reach_of(&item.event, calm);
-        if let Some((cpu, line)) = raised_line(reach) {
+        let reach = reach_of(&item.event, waiting);
+        if let Some((cpu, line)) = raised_line(&reach) {
             return self.follow_line(found, machine, cpu, line);
         }
-        self.follow(found, machine, reach)
+        self.follow(found, machine, &reach)
     }
 }

@@ -1,6 +1,6 @@
 //! Rows of numbers, and texts without `<`.
 
-ghost use Rattle.std.specs.Prelude.{◌≡◌, ◌<◌, ◌≤◌, ◌++◌, ◌∷◌, [], true, OnOk};
+ghost use Rattle.std.specs.Prelude.{◌≡◌, ◌<◌, ◌≤◌, ◌++◌, ◌∷◌, [], false, true, OnOk};
 ghost use Rattle.std.specs.String.{string_bytes};
 ghost use Rattle.text_markup.specs.Text.{items_text, text};
 ghost use Rattle.evm_text.specs.Appending.{Appends};
@@ -23,12 +23,24 @@ pub(crate) fn put(row: &mut Vec<u64>, numbers: &[u64]) -> Result<(), Refused>
     Ok(())
 }
 
-// A number below ten behind a comma.
-fn short_item(number: u64) -> &'static str
-    requires { number < 10 }
-    ensures { result.now ≡ 44 ∷ character number ∷ [] }
+// Appends a piece of a row, for which there mostly is room.
+#[inline(always)]
+fn push_piece(out: &mut String, piece: &str) -> Result<(), Refused>
+    ensures { Appends piece.now out.old out.new result }
 {
-    match number {
+    match out.push_str(piece) {
+        Ok(()) => Ok(()),
+        // Asked again, the growth tells how much was refused.
+        Err(_) => push_text(out, piece),
+    }
+}
+
+// A digit behind a comma.
+fn first_digit(digit: u64) -> &'static str
+    requires { digit < 10 }
+    ensures { result.now ≡ 44 ∷ character digit ∷ [] }
+{
+    match digit {
         0 => ",0",
         1 => ",1",
         2 => ",2",
@@ -42,17 +54,34 @@ fn short_item(number: u64) -> &'static str
     }
 }
 
-// Appends a comma and a number.
-#[inline(always)]
+fn next_digit(digit: u64) -> &'static str
+    requires { digit < 10 }
+    ensures { result.now ≡ character digit ∷ [] }
+{
+    match digit {
+        0 => "0",
+        1 => "1",
+        2 => "2",
+        3 => "3",
+        4 => "4",
+        5 => "5",
+        6 => "6",
+        7 => "7",
+        8 => "8",
+        _ => "9",
+    }
+}
+
+// Appends a comma and a number. Most are short.
 #[tactic(auto, using(evm_text::proofs::Steps::numeral_one))]
 fn push_item(out: &mut String, number: u64) -> Result<(), Refused>
     ensures { Appends (44 ∷ decimal number) out.old out.new result }
 {
     if number < 10 {
-        push_text(out, short_item(number))
+        push_piece(out, first_digit(number))
     } else {
-        push_text(out, ",")?;
-        push_decimal(out, number)
+        push_item(out, number / 10)?;
+        push_piece(out, next_digit(number % 10))
     }
 }
 
@@ -61,9 +90,20 @@ fn push_rest(out: &mut String, numbers: &[u64]) -> Result<(), Refused>
     ensures { Appends (items_text true (row_items numbers.now)) out.old out.new result }
 {
     let [first, rest @ ..] = numbers else {
-        return push_text(out, "]");
+        return push_piece(out, "]");
     };
     push_item(out, *first)?;
+    push_rest(out, rest)
+}
+
+// Appends the numbers of a row, and its end.
+fn push_numbers(out: &mut String, numbers: &[u64]) -> Result<(), Refused>
+    ensures { Appends (items_text false (row_items numbers.now)) out.old out.new result }
+{
+    let [first, rest @ ..] = numbers else {
+        return push_piece(out, "]");
+    };
+    push_decimal(out, *first)?;
     push_rest(out, rest)
 }
 
@@ -71,12 +111,16 @@ fn push_rest(out: &mut String, numbers: &[u64]) -> Result<(), Refused>
 pub(crate) fn push_row(out: &mut String, numbers: &[u64]) -> Result<(), Refused>
     ensures { Appends (text (row_json numbers.now)) out.old out.new result }
 {
-    let [first, rest @ ..] = numbers else {
-        return push_text(out, "[]");
-    };
-    push_text(out, "[")?;
-    push_decimal(out, *first)?;
-    push_rest(out, rest)
+    push_piece(out, "[")?;
+    push_numbers(out, numbers)
+}
+
+/// Appends a row on a line of its own, behind a comma.
+pub(crate) fn push_line(out: &mut String, numbers: &[u64]) -> Result<(), Refused>
+    ensures { Appends (44 ∷ 10 ∷ text (row_json numbers.now)) out.old out.new result }
+{
+    push_piece(out, ",\n[")?;
+    push_numbers(out, numbers)
 }
 
 // Appends a printable character.

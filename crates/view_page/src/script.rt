@@ -67,6 +67,20 @@ function lineOf(part, row, i) {
 const hexadecimal = (n) => n.toString(16).padStart(8, '0');
 
 // ---- 2 reading a run
+// Whole numbers that are added one by one. It costs less than a list to add to, and nothing where the browser looks for what is in use.
+class Numbers {
+  constructor() { this.items = new Uint32Array(16); this.length = 0; }
+  push(number) {
+    if (this.length === this.items.length) {
+      const more = new Uint32Array(this.length * 2);
+      more.set(this.items);
+      this.items = more;
+    }
+    this.items[this.length] = number;
+    this.length += 1;
+  }
+  get all() { return this.items.subarray(0, this.length); }
+}
 /* The rows of a run, as JSON with a row on each line. A million arrays are slow to make and to keep, so all rows are read once, one behind the
    other, into one array. A row that is asked for later is parsed from its piece of the text. */
 class Rows {
@@ -74,7 +88,7 @@ class Rows {
     this.text = text;
     this.bytes = new Uint8Array(1 << 16); // some whole lines of the text, from `base` on: a character is a byte
     this.base = 0; this.end = 0; this.place = 0;
-    this.length = 0; this.starts = []; this.codes = []; // how many are read, and of each where it begins and its first number
+    this.length = 0; this.starts = new Numbers(); this.codes = new Numbers(); // how many are read, and of each where it begins and its first number
     this.row = []; this.size = 0; // what is read last: so many numbers, and behind them what is left of longer rows
   }
   // Takes the lines behind those that are read: as many as there is room for, or one.
@@ -106,7 +120,7 @@ class Rows {
   }
   // A row that was read.
   get(k) {
-    if (this.asked !== k) this.parsed = JSON.parse(this.text.slice(this.starts[k], this.text.indexOf(']', this.starts[k]) + 1));
+    if (this.asked !== k) this.parsed = JSON.parse(this.text.slice(this.starts.items[k], this.text.indexOf(']', this.starts.items[k]) + 1));
     this.asked = k;
     return this.parsed;
   }
@@ -115,7 +129,7 @@ class Rows {
 class Lane {
   constructor(run, key, order, name, kind, { cpu, stage, task, line, wait, number }) {
     this.key = key; this.order = order; this.name = name; this.kind = kind; this.run = run;
-    this.bars = { from: [], to: [], what: [], note: [] };
+    this.bars = { from: new Numbers(), to: new Numbers(), what: [], note: [] };
     this.marks = { at: [], what: [] };
     this.alarms = []; // the events of marks that are alarms
     this.what = null; this.note = undefined; this.since = 0; // the bar that has no end yet
@@ -134,7 +148,7 @@ class Run {
     this.source = about.lines; // [address, file, line, function] by rising addresses behind RAM's begin
     this.names = new Map(about.names.map(([kind, number, name]) => [kind * 256 + number, name]));
     this.count = 0; // events
-    this.first = [0]; // of each entry, its first event
+    this.first = new Numbers(); // of each entry, its first event
     this.warned = []; // the events that have an alarm, of which `warningsOf` may say more
     this.ticks = []; // the events that are ticks
     this.lanes = [];
@@ -160,6 +174,7 @@ class Run {
     if (list[list.length - 1] !== event) list.push(event);
   }
   read() {
+    this.first.push(0);
     this.rows.next();
     const start = this.rows.get(0);
     [this.profile, this.watchdog, this.cpus, this.ram, this.capacity] = start;
@@ -210,8 +225,10 @@ class Run {
     if (lane.what !== null && event > lane.since) { bars.from.push(lane.since); bars.to.push(event); bars.what.push(lane.what); bars.note.push(lane.note); }
     lane.what = what; lane.note = note; lane.since = event;
   }
+  // A mark that is no alarm, and one that may be.
+  plain(lane, event, what) { lane.marks.at.push(event); lane.marks.what.push(what); }
   mark(lane, event, what) {
-    lane.marks.at.push(event); lane.marks.what.push(what);
+    this.plain(lane, event, what);
     if (ALARMS.has(what)) { lane.alarms.push(event); if (this.warned[this.warned.length - 1] !== event) this.warned.push(event); }
   }
   taskLane(task) { return this.byKey.get(`task${task}`) ?? this.lane(`task${task}`, 2000 + task, this.laneName('task', 0, task), 'task', { task }); }
@@ -323,7 +340,7 @@ class Run {
     const { passage, cpu, line, once } = lineOf(part, row, i), lane = this.lineLane(cpu, line);
     if (passage === 0) {
       const merged = lane.wire;
-      this.mark(lane, event, merged || !once ? 'merged' : 'raised');
+      if (merged || !once) this.mark(lane, event, 'merged'); else this.plain(lane, event, 'raised');
       if (merged) lane.merged.push(event);
       else this.bar(lane, event, 'wire');
       lane.wire = true;
@@ -331,14 +348,15 @@ class Run {
       // one that is in the log already merges there
       const merged = lane.log;
       lane.wire = false; lane.log = true;
-      this.mark(lane, event, merged ? 'merges' : 'received');
+      if (merged) this.mark(lane, event, 'merges'); else this.plain(lane, event, 'received');
       this.bar(lane, event, 'log');
     } else {
       const lost = passage === 3 && !this.wakesLine(line);
       lane.log = false;
-      this.mark(lane, event, lost ? 'lost' : 'played');
+      if (lost) this.mark(lane, event, 'lost'); else this.plain(lane, event, 'played');
       this.bar(lane, event, lane.wire ? 'wire' : null);
-      this.mark(this.stages[cpu * 2 + passage - 2], event, lost ? 'lost' : 'played');
+      const stage = this.stages[cpu * 2 + passage - 2];
+      if (lost) this.mark(stage, event, 'lost'); else this.plain(stage, event, 'played');
     }
   }
   // Whether the entry that is read wakes a task that waited for a line; lines 0 and 1 are the kernels' own.
@@ -385,7 +403,9 @@ class Run {
       lane.last = lane.what === null ? null : { from: lane.since, what: lane.what, note: lane.note };
       this.bar(lane, this.count + 1, null);
       if (lane.stalled !== null) { lane.stalls.from.push(lane.stalled); lane.stalls.to.push(this.count + 1); }
+      lane.bars.from = lane.bars.from.all; lane.bars.to = lane.bars.to.all;
     }
+    this.first = this.first.all; this.rows.codes = this.rows.codes.all;
     this.lanes.sort((one, two) => one.order - two.order);
   }
   // The entry that has an event.

@@ -11,7 +11,7 @@ ghost use Rattle.view_page.specs.Pages.{TellsAll};
 use crate::details::{Known, put_details, put_task};
 use crate::heads::put_head;
 use crate::marks::{put_marks, stage_number};
-use crate::row::{push_row, put};
+use crate::row::{push_line, push_row, put};
 use evm_dev::Device;
 use evm_room::{Refused, push_text};
 use evm_streams::Meter;
@@ -83,8 +83,7 @@ fn push_entry(
 {
     row.clear();
     put_entry(row, item, marks, details)?;
-    push_text(out, ",\n")?;
-    push_row(out, row.as_slice())
+    push_line(out, row.as_slice())
 }
 
 // Appends the row of the start.

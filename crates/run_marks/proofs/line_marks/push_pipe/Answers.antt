@@ -1,6 +1,9 @@
-use Rattle.std.proofs.Common.{◌++◌, sym, ap, ◌∙◌}
+use Rattle.std.proofs.Common.{◌≡◌, ◌++◌, Some, sym, ap, ◌∙◌}
 use Rattle.std.proofs.lemmas.List.{append-nil}
-use Rattle.run_marks.proofs.Following.{absent, kept, left}
+use Rattle.evm_journal.specs.evm_core.Views.{line_counts_at}
+use Rattle.run_marks.proofs.Following.{absent, differ, kept}
+use Rattle.run_marks.proofs.Lemmas.{then}
+use Rattle.run_marks.specs.Tallies.{DifferAt}
 use Rattle.run_marks.proofs.line_marks.push_pipe.Goals as goal
 
 pub returns-in_default : goal.returns-in_default
@@ -9,16 +12,24 @@ returns-in_default g c =
     let a = absent c.args.cpu c.args.tally.now.rows was c.args.machine.now.board.parts (sym c.in_default.ensures) is in
     (sym (ap (λ l. c.args.marks.now.items ++ l) a.0 ∙ append-nil c.args.marks.now.items), a.1)
 
-pub returns-then-is_left : goal.returns-then-is_left
-returns-then-is_left g c =
+pub returns-in-Some-touched_lines : goal.returns-in-Some-touched_lines
+returns-in-Some-touched_lines g c =
     λ was is far.
-    let a = left c.args.cpu c.args.tally.now.rows c.row.result.now c.in-Some.counts.now was c.args.machine.now.board.parts c.args.reach is far c.row.ensures (sym c.in-Some.ensures)
-    (λ p q before there x y. c.is_left.ensures was p q c.if-is_left.true far before there x y) in
-    (sym (ap (λ l. c.args.marks.now.items ++ l) a.0 ∙ append-nil c.args.marks.now.items), a.1)
+    let now = c.args.machine.now.board.parts in
+    let rows = c.args.tally.now.rows in
+    let row = c.row.result.now in
+    let counts = c.in-Some.counts.now in
+    let after : line_counts_at c.args.cpu now ≡ Some counts = sym c.in-Some.ensures in
+    then _ _ c.push_touched.result
+    (λ done.
+    let a = kept c.args.cpu rows c.push_touched.new.tally.rows row counts was now c.args.reach.now is far c.row.ensures.here after done.1 c.push_touched.ensures.others in
+    (done.0 ∙ ap (λ l. c.args.marks.now.items ++ l) (sym a.0), a.1))
+    (c.push_touched.ensures.ok row c.row.ensures.here c.row.ensures.lines
+    (differ c.args.cpu rows row counts was now c.args.reach.now (DifferAt c.in-Some-touched_lines.lines row counts) is far c.row.ensures.here after (λ p q before there x y. c.in-Some-touched_lines.ensures was p q far before there x y)))
 
-pub returns : goal.returns
-returns g c =
+pub returns-in_ok-push_lines-in-None : goal.returns-in_ok-push_lines-in-None
+returns-in_ok-push_lines-in-None g c =
     λ was is far.
-    let a = kept c.args.cpu c.args.tally.now.rows c.keep.new.self.rows c.row-2.result.now c.in-Some.counts.now was c.args.machine.now.board.parts c.args.reach is far c.row-2.ensures (sym c.in-Some.ensures)
+    let a = kept c.args.cpu c.args.tally.now.rows c.keep.new.self.rows c.row-in-None.result.now c.in-Some.counts.now was c.args.machine.now.board.parts c.args.reach.now is far c.row-in-None.ensures.here (sym c.in-Some.ensures)
     c.keep.ensures.here c.keep.ensures.others in
-    (c.in_ok-push_lines.ensures ∙ ap (λ l. c.args.marks.now.items ++ l) (sym a.0), a.1)
+    (c.in_ok-push_lines-in-None.ensures ∙ ap (λ l. c.args.marks.now.items ++ l) (sym a.0), a.1)

@@ -1,6 +1,6 @@
 use Rattle.std.proofs.Common.{◌++◌, sym, ap, ◌∙◌}
 use Rattle.std.proofs.lemmas.List.{append-nil}
-use Rattle.run_marks.proofs.Alike.{kept_none, kept_one, line_raised, unraised}
+use Rattle.run_marks.proofs.Alike.{kept_line, kept_none, kept_one, line_raised, unraised}
 use Rattle.run_marks.proofs.line_marks.push_raise.Goals as goal
 
 pub returns-in_default : goal.returns-in_default
@@ -15,6 +15,7 @@ returns g c =
     λ was seen count is only. (
       c.in_ok-push_line_at.ensures
           ∙ ap (λ l. c.args.marks.now.items ++ l) (sym (line_raised seen c.args.cpu c.args.line c.args.tally.now.rows c.row.result.now c.in-Some.counts.now was c.args.machine.now.board.parts count c.rules.ensures.good.good.pipes_count
-          (λ pipe at. (c.rules.ensures.good.good.pipes c.args.cpu pipe at).counts) is only c.row.ensures (sym c.in-Some.ensures))),
-      kept_one c.args.cpu c.args.tally.now.rows c.keep.new.self.rows c.in-Some.counts.now was c.args.machine.now.board.parts is only.others (sym c.in-Some.ensures) c.keep.ensures.here c.keep.ensures.others,
+          (λ pipe at. (c.rules.ensures.good.good.pipes c.args.cpu pipe at).counts) is only c.row.ensures.here (sym c.in-Some.ensures))),
+      kept_one c.args.cpu c.args.tally.now.rows c.keep_line.new.self.rows c.in-Some.counts.now was c.args.machine.now.board.parts is only.others (sym c.in-Some.ensures)
+          (kept_line c.args.cpu c.args.line c.args.tally.now.rows c.keep_line.new.self.rows c.row.result.now c.in-Some.counts.now was c.args.machine.now.board.parts is only c.row.ensures.here (sym c.in-Some.ensures) c.keep_line.ensures.here) c.keep_line.ensures.others,
     )

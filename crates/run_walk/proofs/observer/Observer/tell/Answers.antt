@@ -14,7 +14,7 @@ returns-then-item-clause-ok g c =
 pub returns-in-Some-clause-ok : goal.returns-in-Some-clause-ok
 returns-in-Some-clause-ok g c =
     λ was good is before leads.
-    let far = applied-within c.args.item.now.event c.args.calm was c.args.machine.now good before (leads.applied c.if-item.false) in
+    let far = applied-within c.args.item.now.event c.args.waiting was c.args.machine.now good before (leads.applied c.if-item.false) in
     let reach = subst (λ r. IsWithinReach r was.board.parts c.args.machine.now.board.parts) (sym c.reach_of-reach.ensures ∙ c.in-Some.ensures.0) far in
     then _ _ c.follow_line.result (λ done. (done.0, subst (λ b. IsMarkedAs b was c.args.machine.now c.follow_line.new.found.items) (sym c.if-item.false) done.1)) (c.follow_line.ensures.ok was.board.parts is reach.leaves)
 
@@ -23,6 +23,6 @@ returns-clause-ok g c =
     λ was good is before leads.
     let far : IsWithinReach c.reach_of-reach.result was.board.parts c.args.machine.now.board.parts =
     subst (λ r. IsWithinReach r was.board.parts c.args.machine.now.board.parts) (sym c.reach_of-reach.ensures)
-    (applied-within c.args.item.now.event c.args.calm was c.args.machine.now good before (leads.applied c.if-item.false)) in
+    (applied-within c.args.item.now.event c.args.waiting was c.args.machine.now good before (leads.applied c.if-item.false)) in
     both _ _ c.follow.result (c.follow.ensures.seen was.board.parts is far)
     (subst (λ b. OnOk c.follow.result (IsMarkedAs b was c.args.machine.now c.follow.new.found.items)) (sym c.if-item.false) (c.follow.ensures.marks was.board.parts is far))

@@ -1,12 +1,12 @@
--- A Step on whose processor no line waited counts there only what is raised.
+-- Of its own processor a Step counts only the lines that waited, and those that a device raises.
 use Rattle.std.proofs.Common.{◌≡◌, ◌≢◌, inl, inr, ℕ, zero, suc, ◌+◌, ◌<◌, ◌≤◌, ◌⊎◌, List, [], ◌∷◌, length, Bool, true, false, Option, Some, None, refl, sym, ap, subst, ◌∙◌, arith}
-use Rattle.std.specs.Prelude.{◌&&◌, ◌==◌, is_none, option_map, slice_get, if◌then◌else◌}
+use Rattle.std.specs.Prelude.{◌&&◌, ◌||◌, ◌==◌, nat_le, nat_lt, option_map, slice_get, if◌then◌else◌}
 use Rattle.std.proofs.lemmas.Bool.{cases_eq}
 use Rattle.std.proofs.lemmas.Bool.Decides.{nat_tests}
-use Rattle.evm_lines.specs.Lines.{has_line, least_line}
+use Rattle.evm_lines.specs.Lines.{has_line}
 use Rattle.evm_lines.specs.Laws.{has_line-with_other, has_line-without_other}
 use Rattle.evm_lines.specs.declared.TheConstants.{LINES}
-use Rattle.evm_model.proofs.Lists.{change-here, change-elsewhere, same_elements, slice_get-each}
+use Rattle.evm_model.proofs.Lists.{change-here, change-elsewhere, slice_get-each}
 use Rattle.evm_model.specs.Boosts.{is_number}
 use Rattle.evm_model.specs.Devices.{raise_line}
 use Rattle.evm_model.specs.Lists.{each}
@@ -15,6 +15,7 @@ use Rattle.evm_model.specs.Rows.{step}
 use Rattle.evm_model.specs.Settle.{nudge, nudge_pipe, wants_nudge}
 use Rattle.evm_model.specs.State.{Board, Parts}
 use Rattle.evm_model.specs.declared.counts.Counts.{Counts}
+use Rattle.evm_model.specs.declared.limits.TheConstants.{DEVICE_LIMIT, DEVICE_LINE}
 use Rattle.evm_model.specs.declared.stage.Stage.{Stage}
 use Rattle.evm_model.specs.declared.stage.Stage.TheVariants.{OutOfBand, InBand}
 use Rattle.law_rules.proofs.Counted.{Counted, raise-counted, leave-counted, arrive-counted, play-counted}
@@ -23,9 +24,10 @@ use Rattle.law_rules.proofs.RowWalks.{SETTLING_STAMPS}
 use Rattle.law_rules.proofs.Sets.{walk_pipes}
 use Rattle.law_rules.proofs.Walk.{Actor, PipeMove, raises, receives, plays_timer, plays_oob, plays_in_band, stalls, ArePipes, Walk}
 use Rattle.law_runs.proofs.Executing.{SETTLING_MOVES, StepParts, doer, settler, step_parts}
+use Rattle.law_runs.proofs.Instructions.{step_writes}
 use Rattle.law_runs.proofs.Raised.{RaisedIs, line_pipes, line_raised, walk-raised}
 use Rattle.law_runs.specs.Balance.{line_of_step, one_if}
-use Rattle.run_marks.specs.Tallies.{SameRaised, is_calm}
+use Rattle.run_marks.specs.Tallies.{SameRaised, belongs_to_devices, waits_in}
 
 -- ---- a line that waits nowhere
 -- it is on no wire and in no log of a pipe, and has these counts
@@ -93,21 +95,22 @@ absent_walked c l o a old n s k h none are w at =
     (lift a old P c lifts are n s 0 k w (record { holds = at })).holds
 
 -- ---- a Step
-none_on : (set : List ℕ) (l : ℕ) → is_none (least_line set) ≡ true → has_line set l ≡ false
-none_on [] l e = refl
-none_on (x ∷ set) l e = absurd cc
+neither : (a b : Bool) → (a || b) ≡ false → (a ≡ false) × (b ≡ false)
+neither true b e = absurd cc
+neither false b e = (refl, e)
 
-both_hold : (a b : Bool) → (a && b) ≡ true → (a ≡ true) × (b ≡ true)
-both_hold true true e = (refl, refl)
-both_hold true false e = absurd cc
-both_hold false b e = absurd cc
+absent_unless : (l : ℕ) (p : Pipe) → waits_in l (Some p) ≡ false → Absent l (slice_get p.counts l) p
+absent_unless l p none =
+    let one = neither _ _ none in let two = neither _ _ one.1 in record { wire = one.0; oob = two.0; in_band = two.1; counts = refl }
 
-absent_calm : (l : ℕ) (p : Pipe) → is_calm (Some p) ≡ true → Absent l (slice_get p.counts l) p
-absent_calm l p calm =
-    let one = both_hold _ _ calm in let two = both_hold _ _ one.1 in
-    record { wire = none_on p.wire l one.0; oob = none_on p.oob.lines l two.0; in_band = none_on p.in_band.lines l two.1; counts = refl }
+-- a device's line is one of eight
+device_line : (l i : ℕ) → i < DEVICE_LIMIT → l ≡ DEVICE_LINE + i → belongs_to_devices l ≡ true
+device_line l i few is =
+    let low : nat_le DEVICE_LINE l ≡ true = (let h : DEVICE_LINE ≤ l = omega (arith, is) in grind (arith, nat_tests)) in
+    let high : nat_lt l (DEVICE_LINE + DEVICE_LIMIT) ≡ true = (let h : l < DEVICE_LINE + DEVICE_LIMIT = omega (arith, is, few) in grind (arith, nat_tests)) in
+    rw (low, high) refl
 
-module _ (c : ℕ) (b : Board) (are : ArePipes b.parts) where
+module _ (c : ℕ) (b : Board) (are : ArePipes b.parts) (few : length b.memory.devices ≤ DEVICE_LIMIT) where
   abbrev d : StepParts c b (step c b)
   d = step_parts c b
 
@@ -136,12 +139,12 @@ module _ (c : ℕ) (b : Board) (are : ArePipes b.parts) where
   untold k (inl same) = ap (λ (x : Parts). slice_get x.pipes c) same
   untold k (inr told) = ap (λ (x : Parts). slice_get x.pipes c) told ∙ slice_get-each (nudge_pipe c d.settled) d.settled.pipes c ∙ own_option (slice_get d.settled.pipes c) d.settled
 
-  module _ (p q : Pipe) (l : ℕ) (h : l < LINES) (before : slice_get b.parts.pipes c ≡ Some p) (calm : is_calm (Some p) ≡ true) (after : slice_get (step c b).0.parts.pipes c ≡ Some q) where
+  module _ (p q : Pipe) (l : ℕ) (h : l < LINES) (before : slice_get b.parts.pipes c ≡ Some p) (none : waits_in l (Some p) ≡ false) (after : slice_get (step c b).0.parts.pipes c ≡ Some q) where
     abbrev o : Option Counts
     o = slice_get p.counts l
 
     at_first : AbsentAt c l o b.parts
-    at_first x e = let same : x ≡ p = (let two : Some x ≡ Some p = sym e ∙ before in cc) in subst (λ (y : Pipe). Absent l o y) (sym same) (absent_calm l p calm)
+    at_first x e = let same : x ≡ p = (let two : Some x ≡ Some p = sym e ∙ before in cc) in subst (λ (y : Pipe). Absent l o y) (sym same) (absent_unless l p none)
 
     acted : AbsentAt c l o d.before
     acted = absent_walked c l o (doer c d.task) b.parts 1 65 d.before h refl are d.acts at_first
@@ -193,7 +196,7 @@ module _ (c : ℕ) (b : Board) (are : ArePipes b.parts) where
     has (x ∷ xs) zero g = (x, refl)
     has (x ∷ xs) (suc i) g = has xs i (omega (arith, g))
 
-    pub line_stands : SameRaised p.counts q.counts → slice_get q.counts l ≡ slice_get p.counts l
+    pub line_stands : (c ≡ 0 → belongs_to_devices l ≡ true → SameRaised l p.counts q.counts) → slice_get q.counts l ≡ slice_get p.counts l
     line_stands same = stands_if (elsewhere line (λ m is first e. raised_not m is first e))
       where
         raised_not : (m : ℕ) → line ≡ Some m → c ≡ 0 → l ≡ m → ⊥
@@ -203,31 +206,12 @@ module _ (c : ℕ) (b : Board) (are : ArePipes b.parts) where
             let n = has p.counts l (omega (arith, h, full)) in
             let k = has q.counts l (omega (arith, h, full_now)) in
             let more = once_more n.0 n.1 first (is ∙ ap Some (sym e)) k.0 k.1 in
-            let alike = same l n.0 k.0 n.1 k.1 in
+            let its = (step_writes c b).line l (is ∙ ap Some (sym e)) in
+            let small = its.1.0 in
+            let device = device_line l its.0 (omega (arith, small, few)) its.1.1 in
+            let alike = same first device n.0 k.0 n.1 k.1 in
             absurd (omega (arith, more, alike))
 
--- all of its counts
-beyond : {X : Type 0} (xs : List X) (i : ℕ) → length xs ≤ i → slice_get xs i ≡ None
-beyond [] i h = refl
-beyond (x ∷ xs) zero h = absurd (omega (arith, h))
-beyond (x ∷ xs) (suc i) h = beyond xs i (omega (arith, h))
-
-less_or_not : (n m : ℕ) → (n < m) ⊎ (m ≤ n)
-less_or_not n zero = inr (omega arith)
-less_or_not zero (suc m) = inl (omega arith)
-less_or_not (suc n) (suc m) = elim (less_or_not n m) [ inl h ↦ inl (omega (arith, h)) | inr h ↦ inr (omega (arith, h)) ]
-
-pub own_stands : (c : ℕ) (b : Board) (p q : Pipe) → ArePipes b.parts → slice_get b.parts.pipes c ≡ Some p → is_calm (Some p) ≡ true → slice_get (step c b).0.parts.pipes c ≡ Some q → SameRaised p.counts q.counts → q.counts ≡ p.counts
-own_stands c b p q are before calm after same = same_elements q.counts p.counts (λ l. elim (less_or_not l LINES) [
-  | inl h ↦ line_stands c b are p q l h before calm after same
-  | inr h ↦
-      let full = (are.each c p before).counts in
-      let full_now = (are_settled c b are).each c q (now_settled c b are p q l_any h_any before calm after) in
-      beyond q.counts l (omega (arith, h, full_now.counts)) ∙ sym (beyond p.counts l (omega (arith, h, full)))
-])
-  where
-    l_any : ℕ
-    l_any = 0
-
-    h_any : 0 < LINES
-    h_any = omega arith
+pub own_stands : (c : ℕ) (b : Board) (p q : Pipe) (l : ℕ) → ArePipes b.parts → length b.memory.devices ≤ DEVICE_LIMIT → l < LINES → slice_get b.parts.pipes c ≡ Some p → waits_in l (Some p) ≡ false
+    → slice_get (step c b).0.parts.pipes c ≡ Some q → (c ≡ 0 → belongs_to_devices l ≡ true → SameRaised l p.counts q.counts) → slice_get q.counts l ≡ slice_get p.counts l
+own_stands c b p q l are few h before none after same = line_stands c b are few p q l h before none after same
