@@ -1,0 +1,4 @@
+pub mod Alike
+pub mod Runs
+pub mod Space
+pub mod Exploring
