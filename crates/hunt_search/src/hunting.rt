@@ -39,34 +39,15 @@ pub enum SearchSpan {
     Seeds(u64),
     /// Those with at most this number of switches.
     Switches(u8),
-    /// All.
-    All(SpaceCounts),
 }
 
-/// What a search of all schedules has counted.
-#[derive(Clone, Copy, Debug, PartialEq, Eq)]
-pub struct SpaceCounts {
-    /// The most ticks of a schedule; None for any number.
-    pub ticks: Option<u64>,
-    /// The states that were visited.
-    pub states: u64,
-    /// The events that were made at them.
-    pub events: u64,
-    /// The states at which nothing more can happen.
-    pub ends: u64,
-    /// Where a call reads the clock or names a time, which ended the search.
-    pub clock: Option<u64>,
-}
-
-/// A schedule that was looked at.
+/// A schedule that was looked at: the machine that it has made, and how it ended.
 #[derive(Clone, Copy)]
-pub struct HuntRun<'a> {
+pub(crate) struct Run<'a> {
     /// The seed, or the number of the schedule.
-    pub seed: u64,
-    /// The machine that it has made.
-    pub machine: &'a Machine<AnyDevice>,
-    /// How it ended.
-    pub outcome: RunOutcome,
+    pub(crate) seed: u64,
+    pub(crate) machine: &'a Machine<AnyDevice>,
+    pub(crate) outcome: RunOutcome,
 }
 
 /// A failure, once for each kind and place.
@@ -107,7 +88,7 @@ pub struct Report {
 
 impl Report {
     /// Nothing was looked at. `orders` says whether the orders of locks are.
-    pub fn new(alloc: Global, orders: bool) -> Report
+    pub(crate) fn new(alloc: Global, orders: bool) -> Report
         ensures { result.rows.items ≡ [] }
     {
         Report {
@@ -134,7 +115,7 @@ impl Report {
     }
 
     // Counts a schedule.
-    fn count(&mut self, run: &HuntRun<'_>)
+    fn count(&mut self, run: &Run<'_>)
         ensures { self.new.rows ≡ self.old.rows }
     {
         self.schedules = self.schedules.saturating_add(1);
@@ -146,7 +127,7 @@ impl Report {
     }
 
     /// Says whether there were more schedules than may be looked at.
-    pub fn set_cut(&mut self, cut: bool)
+    pub(crate) fn set_cut(&mut self, cut: bool)
         ensures rows { self.new.rows ≡ self.old.rows }
         ensures cut { self.new.cut ≡ cut }
     {
@@ -166,7 +147,7 @@ impl Report {
 }
 
 // The row of a schedule that has failed.
-fn row_of(alloc: Global, run: &HuntRun<'_>, failure: Failure, key: FailureKey) -> Result<Row, NoMemory>
+fn row_of(alloc: Global, run: &Run<'_>, failure: Failure, key: FailureKey) -> Result<Row, NoMemory>
     ensures { IfOk result (λ row. row.failure ≡ Option.Some failure) }
 {
     match schedule_of(alloc, run.machine) {
@@ -202,7 +183,7 @@ fn cycle_row(alloc: Global, cycle: Cycle, events: u64, seed: u64) -> Row
 // Adds the orders of the locks of a schedule, if they are looked at.
 fn add_orders<O: Onlooker>(
     target: &Target<'_>,
-    run: &HuntRun<'_>,
+    run: &Run<'_>,
     report: &mut Report,
     onlooker: &mut O,
 ) -> Result<(), HuntStop>
@@ -230,7 +211,7 @@ fn add_orders<O: Onlooker>(
 // Adds the failure of a schedule, if it is new.
 fn add_failure<O: Onlooker>(
     target: &Target<'_>,
-    run: &HuntRun<'_>,
+    run: &Run<'_>,
     failure: Failure,
     report: &mut Report,
     onlooker: &mut O,
@@ -251,13 +232,9 @@ fn add_failure<O: Onlooker>(
 }
 
 /// Adds what a schedule came to.
-///
-/// # Errors
-///
-/// Memory was refused.
-pub fn note<O: Onlooker>(
+pub(crate) fn note<O: Onlooker>(
     target: &Target<'_>,
-    run: &HuntRun<'_>,
+    run: &Run<'_>,
     report: &mut Report,
     onlooker: &mut O,
 ) -> Result<(), HuntStop>
@@ -292,7 +269,7 @@ fn look<O: Onlooker>(
     };
     let mut chooser = Chooser::new(seed, way, target.wanted.lines);
     let outcome = run_schedule(&mut machine, &mut chooser, target.wanted);
-    let run = HuntRun {
+    let run = Run {
         seed,
         machine: &machine,
         outcome,

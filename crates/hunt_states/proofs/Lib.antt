@@ -1,4 +1,2 @@
-pub mod AlikeBoards
-pub mod Boards
 pub mod Equal
-pub mod Words
+pub mod Boards

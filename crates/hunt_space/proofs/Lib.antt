@@ -1,9 +1,0 @@
-pub mod Reading
-pub mod Failing
-pub mod Making
-pub mod Timeless
-pub mod Reaching
-pub mod Choosing
-pub mod Covering
-pub mod Closing
-pub mod Progress

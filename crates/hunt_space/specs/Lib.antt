@@ -1,4 +1,0 @@
-pub mod Alike
-pub mod Runs
-pub mod Space
-pub mod Exploring

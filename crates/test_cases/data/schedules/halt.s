@@ -1,3 +1,0 @@
-# One task, which stops its processor.
-        .globl _start
-_start: ebreak
