@@ -26,7 +26,7 @@ notices-of : (a b : State) → GoodState a → GoodState b → ((i : ℕ) → i 
 notices-of a b ga gb h beside =
     let fa = ga.notices.kept in
     let fb = gb.notices.kept in
-    let kept : a.board.parts.notices.kept ≡ b.board.parts.notices.kept = same-by-get 64 a.board.parts.notices.kept b.board.parts.notices.kept (omega arith) (omega arith) (λ i less. (h i less).objects.notices) in
+    let kept : a.board.parts.notices.kept ≡ b.board.parts.notices.kept = same-by-get 64 a.board.parts.notices.kept b.board.parts.notices.kept (omega arith) (omega arith) (λ i less. (h i less).notices) in
     let total : a.board.parts.notices.total ≡ b.board.parts.notices.total = beside.total in
     let notices : (x y : Notices) → x.kept ≡ y.kept → x.total ≡ y.total → x ≡ y = λ x y e f. rw e (rw f refl) in
     notices a.board.parts.notices b.board.parts.notices kept total

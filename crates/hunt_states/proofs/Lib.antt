@@ -1,2 +1,4 @@
-pub mod Equal
+pub mod AlikeBoards
 pub mod Boards
+pub mod Equal
+pub mod Words

@@ -14,14 +14,13 @@ pub record AreSameRunners (i : ℕ) (a b : Parts) : Type 0 where
   pub processors : slice_get a.processors i ≡ slice_get b.processors i
   pub watches : watch i a ≡ watch i b
 
--- the same is at place i of the lists of kernel objects and notices
+-- the same is at place i of the lists of kernel objects
 pub record AreSameObjects (i : ℕ) (a b : Parts) : Type 0 where
   pub mutexes : slice_get a.mutexes i ≡ slice_get b.mutexes i
   pub semaphores : slice_get a.semaphores i ≡ slice_get b.semaphores i
   pub events : bound_of (slice_get a.events i) ≡ bound_of (slice_get b.events i)
   pub flags : slice_get a.flags i ≡ slice_get b.flags i
   pub timers : slice_get a.timers i ≡ slice_get b.timers i
-  pub notices : slice_get a.notices.kept i ≡ slice_get b.notices.kept i
 
 -- processor i has the same interrupts, and line i the same action
 pub record AreSameLines (i : ℕ) (a b : Parts) : Type 0 where
@@ -34,6 +33,7 @@ pub record AreSameAt (i : ℕ) (a b : Parts) : Type 0 where
   pub runners : AreSameRunners i a b
   pub objects : AreSameObjects i a b
   pub lines : AreSameLines i a b
+  pub notices : slice_get a.notices.kept i ≡ slice_get b.notices.kept i
 
 -- what is in no list of these is the same
 pub record AreSameBeside (a b : Parts) : Type 0 where

@@ -30,12 +30,9 @@ fn same_notices<D: Device>(a: &Machine<D>, b: &Machine<D>, i: u8) -> bool
     a.notice(usize::from(i)) == b.notice(usize::from(i))
 }
 
-fn same_objects<D: Device>(a: &Machine<D>, b: &Machine<D>, i: u8) -> bool
+pub(crate) fn same_objects<D: Device>(a: &Machine<D>, b: &Machine<D>, i: u8) -> bool
     ensures { result ≡ true → AreSameObjects i a.now.board.parts b.now.board.parts }
 {
-    if !same_notices(a, b, i) {
-        return false;
-    }
     a.mutex(i) == b.mutex(i)
         && a.semaphore(i) == b.semaphore(i)
         && a.event_mutex(i) == b.event_mutex(i)
@@ -74,6 +71,9 @@ fn same_at<D: Device>(a: &Machine<D>, b: &Machine<D>, i: u8) -> bool
         return false;
     }
     if !same_objects(a, b, i) {
+        return false;
+    }
+    if !same_notices(a, b, i) {
         return false;
     }
     same_lines(a, b, i)

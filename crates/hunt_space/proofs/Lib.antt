@@ -1,0 +1,15 @@
+pub mod Reading
+pub mod Failing
+pub mod Making
+pub mod Timeless
+pub mod Covering
+pub mod Harts
+pub mod Private
+pub mod Harmless
+pub mod FailingAhead
+pub mod Shared
+pub mod Reaching
+pub mod Following
+pub mod Completing
+pub mod Unguarded
+pub mod Progress
