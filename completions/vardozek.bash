@@ -27,7 +27,8 @@ _vardozek() {
         trace:--lines) COMPREPLY=(); return ;;
         trace:--seed) COMPREPLY=(); return ;;
         hunt:--pct) COMPREPLY=(); return ;;
-        hunt:--all) COMPREPLY=(); return ;;
+        hunt:--ticks) COMPREPLY=(); return ;;
+        hunt:--states) COMPREPLY=(); return ;;
         hunt:--cpus) COMPREPLY=(); return ;;
         hunt:--ram) COMPREPLY=(); return ;;
         hunt:--watchdog) COMPREPLY=(); return ;;
@@ -47,7 +48,7 @@ _vardozek() {
         trace:-*) COMPREPLY=($(compgen -W "--clock --map --run --cpus --ram --watchdog --ticks --lines --seed --until --script --help" -- "$word")) ;;
         gdb:-*) COMPREPLY=($(compgen -W "--map --help" -- "$word")) ;;
         sh:-*) COMPREPLY=($(compgen -W "--script --journal --junit --map --help" -- "$word")) ;;
-        hunt:-*) COMPREPLY=($(compgen -W "--random --pct --all --cpus --ram --watchdog --events --runs --time --seeds --lines --fail --errno --order --out --junit --map --held --inversion --stuck --help" -- "$word")) ;;
+        hunt:-*) COMPREPLY=($(compgen -W "--random --pct --all --ticks --states --cpus --ram --watchdog --events --runs --time --seeds --lines --fail --errno --order --out --junit --map --held --inversion --stuck --help" -- "$word")) ;;
         view:*) COMPREPLY=($(compgen -W "diff" -- "$word") $(compgen -f -- "$word")) ;;
         *) COMPREPLY=($(compgen -f -- "$word")) ;;
     esac

@@ -204,7 +204,7 @@ fn line_detail(kind: AsmFaultKind, code: &[u8]) -> Option<SourceDetail>
     }
 }
 
-/// What is behind the fault of a source, where the line has more to say than the message of its kind.
+/// The values of the source line behind a fault, as a count of operands. `None` if the message of its kind says all.
 #[tactic(auto, unfolding(crate::specs::Details::source_detail))]
 pub fn source_detail(source: &str, fault: AsmFault) -> Option<SourceDetail>
     ensures { result ≡ source_detail source.now fault }

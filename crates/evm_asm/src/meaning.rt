@@ -24,13 +24,18 @@ pub enum LineFailure {
     Fault(SourceFaultKind),
 }
 
+/// A line of a source: its number, where its items stand, and what of its text is still to be read.
+#[derive(Clone, Copy)]
+struct PlacedLine<'a> {
+    number: u64,
+    place: SectionPlace,
+    text: &'a [u8],
+}
+
 fn push_item(items: &mut Vec<Placed>, section: Section, item: SourceItem) -> Result<(), LineFailure>
     ensures { IsMeant (λ _. items.new.items) result (Ok (with_item section item items.old.items)) }
 {
-    match push(items, Placed { section, item }) {
-        Ok(()) => Ok(()),
-        Err(refused) => Err(LineFailure::Memory(refused)),
-    }
+    push(items, Placed { section, item }).map_err(LineFailure::Memory)
 }
 
 #[tactic(auto, unfolding(crate::specs::Items::with_instructions))]
@@ -60,15 +65,14 @@ fn operands(text: &[u8]) -> &[u8]
 #[tactic(auto, unfolding(crate::specs::Items::number_pushed))]
 fn push_number(
     items: &mut Vec<Placed>,
-    labels: &Labels,
-    text_size: u32,
+    layout: &Layout,
     section: Section,
     width: DataWidth,
     text: &[u8],
 ) -> Result<(), LineFailure>
-    ensures { IsMeant (λ _. items.new.items) result (number_pushed labels.now text_size section width text.now items.old.items) }
+    ensures { IsMeant (λ _. items.new.items) result (number_pushed layout.now.labels layout.now.place.text_size section width text.now items.old.items) }
 {
-    match value_in(labels, text_size, width, text) {
+    match value_in(&layout.labels, layout.place.text_size, width, text) {
         Ok(value) => push_item(items, section, SourceItem::Number(width, value)),
         Err(kind) => Err(LineFailure::Fault(kind)),
     }
@@ -76,28 +80,23 @@ fn push_number(
 
 fn push_numbers(
     items: &mut Vec<Placed>,
-    labels: &Labels,
-    text_size: u32,
-    section: Section,
+    layout: &Layout,
+    line: &PlacedLine<'_>,
     width: DataWidth,
     count: u64,
-    text: &[u8],
 ) -> Result<(), LineFailure>
-    ensures { IsMeant (λ _. items.new.items) result (with_numbers labels.now text_size section width count text.now items.old.items) }
+    ensures { IsMeant (λ _. items.new.items) result (with_numbers layout.now.labels layout.now.place.text_size line.now.place.section width count (operands line.now.text.now) items.old.items) }
 {
-    let mut rest = text;
+    let mut rest = operands(line.text);
     for _ in 0..count {
-        match push_number(
+        push_number(
             items,
-            labels,
-            text_size,
-            section,
+            layout,
+            line.place.section,
             width,
             first_operand(rest),
-        ) {
-            Ok(()) => rest = other_operands(rest),
-            Err(stop) => return Err(stop),
-        }
+        )?;
+        rest = other_operands(rest);
     }
     Ok(())
 }
@@ -105,26 +104,21 @@ fn push_numbers(
 #[tactic(auto, unfolding(crate::specs::Items::with_statement))]
 fn push_statement(
     items: &mut Vec<Placed>,
-    labels: &Labels,
-    text_size: u32,
-    line: u64,
-    place: SectionPlace,
-    text: &[u8],
+    layout: &Layout,
+    line: &PlacedLine<'_>,
     statement: &Statement,
 ) -> Result<(), LineFailure>
-    ensures { IsMeant (λ _. items.new.items) result (with_statement labels.now text_size line place text.now statement.now items.old.items) }
+    ensures { IsMeant (λ _. items.new.items) result (with_statement layout.now.labels layout.now.place.text_size line.now.number line.now.place line.now.text.now statement.now items.old.items) }
 {
+    let place = line.place;
     match *statement {
-        Statement::Numbers { width, count } => {
-            let text = operands(text);
-            push_numbers(items, labels, text_size, place.section, width, count, text)
-        }
+        Statement::Numbers { width, count } => push_numbers(items, layout, line, width, count),
         Statement::Space(size) => push_item(items, place.section, SourceItem::Zeros(size)),
         Statement::Align(power) => push_item(items, place.section, filling(place, power)),
         _ => {
-            let from = TEXT_BASE + u64::from(place.text_size);
-            match expanded(text_size, from, *statement) {
-                Ok(expansion) => push_instructions(items, line, expansion),
+            let from = TEXT_BASE + u64::from(line.place.text_size);
+            match expanded(layout.place.text_size, from, *statement) {
+                Ok(expansion) => push_instructions(items, line.number, expansion),
                 Err(kind) => Err(LineFailure::Fault(kind)),
             }
         }
@@ -134,29 +128,21 @@ fn push_statement(
 fn next_place(place: SectionPlace, statement: &Statement) -> Result<SectionPlace, LineFailure>
     ensures { IsMeant (λ next. next) result (place_behind place statement.now) }
 {
-    match place_behind(place, *statement) {
-        Ok(next) => Ok(next),
-        Err(kind) => Err(LineFailure::Fault(kind)),
-    }
+    place_behind(place, *statement).map_err(LineFailure::Fault)
 }
 
 /// Adds the items of a statement; the place behind it.
 #[tactic(auto, unfolding(crate::specs::Items::statement_meant))]
 fn push_placed(
     items: &mut Vec<Placed>,
-    labels: &Labels,
-    text_size: u32,
-    line: u64,
-    place: SectionPlace,
-    text: &[u8],
+    layout: &Layout,
+    line: &PlacedLine<'_>,
     statement: &Statement,
 ) -> Result<SectionPlace, LineFailure>
-    ensures { IsMeant (λ next. (next, items.new.items)) result (statement_meant labels.now text_size line place text.now statement.now items.old.items) }
+    ensures { IsMeant (λ next. (next, items.new.items)) result (statement_meant layout.now.labels layout.now.place.text_size line.now.number line.now.place line.now.text.now statement.now items.old.items) }
 {
-    match push_statement(items, labels, text_size, line, place, text, statement) {
-        Ok(()) => next_place(place, statement),
-        Err(stop) => Err(stop),
-    }
+    push_statement(items, layout, line, statement)?;
+    next_place(line.place, statement)
 }
 
 /// What the text behind the labels of a line says, of which this is kept.
@@ -179,18 +165,15 @@ fn reading(
 #[tactic(auto, unfolding(crate::specs::Items::line_meant))]
 fn push_line(
     items: &mut Vec<Placed>,
-    labels: &Labels,
-    text_size: u32,
-    line: u64,
-    place: SectionPlace,
-    text: &[u8],
+    layout: &Layout,
+    line: &PlacedLine<'_>,
     kept: Option<Kept>,
 ) -> Result<SectionPlace, LineFailure>
-    requires { IsKept kept text.now }
-    ensures { IsMeant (λ next. (next, items.new.items)) result (line_meant labels.now text_size line place text.now items.old.items) }
+    requires { IsKept kept line.now.text.now }
+    ensures { IsMeant (λ next. (next, items.new.items)) result (line_meant layout.now.labels layout.now.place.text_size line.now.number line.now.place line.now.text.now items.old.items) }
 {
-    match reading(labels, place, text, kept) {
-        Ok(statement) => push_placed(items, labels, text_size, line, place, text, &statement),
+    match reading(&layout.labels, line.place, line.text, kept) {
+        Ok(statement) => push_placed(items, layout, line, &statement),
         Err(kind) => Err(LineFailure::Fault(kind)),
     }
 }
@@ -247,35 +230,29 @@ fn unless_stopped(
 fn push_or_fault(
     items: &mut Vec<Placed>,
     layout: &Layout,
-    line: u64,
-    place: SectionPlace,
-    code: &[u8],
+    line: &PlacedLine<'_>,
     kept: Option<Kept>,
 ) -> Result<SectionPlace, AssemblyFailure>
-    requires { IsKept kept (statement_text code.now) }
-    ensures { Gives (λ next. (next, items.new.items)) 1 result (line_or_fault layout.now.labels layout.now.place.text_size layout.now.first line place code.now items.old.items) }
+    requires { IsKept kept (statement_text line.now.text.now) }
+    ensures { Gives (λ next. (next, items.new.items)) 1 result (line_or_fault layout.now.labels layout.now.place.text_size layout.now.first line.now.number line.now.place line.now.text.now items.old.items) }
 {
-    let text_size = layout.place.text_size;
-    match push_line(
-        items,
-        &layout.labels,
-        text_size,
-        line,
-        place,
-        statement_text(code),
-        kept,
-    ) {
-        Ok(next) => match unless_stopped(stop_at(layout.first, line), next) {
+    let number = line.number;
+    let statement = PlacedLine {
+        text: statement_text(line.text),
+        ..*line
+    };
+    match push_line(items, layout, &statement, kept) {
+        Ok(next) => match unless_stopped(stop_at(layout.first, number), next) {
             Ok(next) => Ok(next),
             Err(fault) => Err(AssemblyFailure::Fault(fault)),
         },
         Err(LineFailure::Memory(refused)) => Err(AssemblyFailure::Memory(Shortage {
-            line,
+            line: number,
             refused,
         })),
         Err(LineFailure::Fault(kind)) => Err(AssemblyFailure::Fault(least_so_far(
             layout.first,
-            line,
+            number,
             kind,
         ))),
     }
@@ -319,18 +296,12 @@ pub fn meaning(
     let mut known = kept.lines();
     while !rest.is_empty() {
         let (line, behind) = cut(b'\n', rest);
-        let code = code_of(line);
-        match push_or_fault(
-            &mut items,
-            layout,
-            lines + 1,
+        let line = PlacedLine {
+            number: lines + 1,
             place,
-            code,
-            first_kept(known),
-        ) {
-            Ok(next) => place = next,
-            Err(failure) => return Err(failure),
-        }
+            text: code_of(line),
+        };
+        place = push_or_fault(&mut items, layout, &line, first_kept(known))?;
         lines += 1;
         rest = behind;
         known = other_kept(known);

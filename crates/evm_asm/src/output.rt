@@ -142,10 +142,8 @@ pub fn spell(alloc: Global, items: &[Placed]) -> Result<Output, AssemblyFailure>
     };
     let mut rest = items;
     while let [placed, tail @ ..] = rest {
-        match push_placed(&mut out, placed.section, placed.item) {
-            Ok(()) => rest = tail,
-            Err(failure) => return Err(failure),
-        }
+        push_placed(&mut out, placed.section, placed.item)?;
+        rest = tail;
     }
     Ok(out)
 }

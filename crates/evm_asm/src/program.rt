@@ -46,14 +46,14 @@ impl Model for Program {
 }
 
 impl Program {
-    /// The instructions, each with its address and the source line that it comes from.
+    /// The instructions in the order of their addresses, each with its source line, from 1.
     pub fn lines(&self) -> &[ProgramLine]
         ensures { result.now ≡ self.now.lines }
     {
         self.lines.as_slice()
     }
 
-    /// The bytes, of which the first is at 0x80000000.
+    /// The bytes of the image, of which the first is at 0x80000000: at most 16,777,216.
     pub fn bytes(&self) -> &[u8]
         ensures all { result.now ≡ self.now.bytes }
         ensures fit { length self.now.bytes ≤ bytes_max }
@@ -61,7 +61,7 @@ impl Program {
         self.bytes.as_slice()
     }
 
-    /// The label at a place of the source's order, from 0, with its address.
+    /// The label at an index in the source's order, from 0, with its address. `None` past the last.
     pub fn label(&self, index: usize) -> Option<(&[u8], u64)>
         ensures { option_map (λ x. (x.0.now, x.1)) result ≡ slice_get self.now.labels index }
     {
@@ -71,7 +71,7 @@ impl Program {
         }
     }
 
-    /// The address of the label of this name.
+    /// The address of a label. `None` if the source defines no such label.
     pub fn address_of(&self, name: &str) -> Option<u64>
         ensures { result ≡ named self.now.labels name.now }
     {
@@ -117,21 +117,19 @@ fn assembled(alloc: Global, source: &str) -> Result<Program, AssemblyFailure>
         Ok(laid) => laid,
         Err(shortage) => return Err(AssemblyFailure::Memory(shortage)),
     };
-    let items = match meaning(alloc, source, &layout, kept) {
-        Ok(items) => items,
-        Err(failure) => return Err(failure),
-    };
-    let out = match spell(alloc, items.as_slice()) {
-        Ok(out) => out,
-        Err(failure) => return Err(failure),
-    };
+    let items = meaning(alloc, source, &layout, kept)?;
+    let out = spell(alloc, items.as_slice())?;
     match finished(layout, out) {
         Ok(program) => Ok(program),
         Err(refused) => Err(AssemblyFailure::Memory(Shortage { line: 1, refused })),
     }
 }
 
-/// Assembles a source: its program, or the least line that has a fault and the least of its faults.
+/// Assembles a source.
+///
+/// # Errors
+///
+/// The first line that has a fault, with the fault of the least number; or `NoMemory`, with the line that was reached.
 pub fn assemble(alloc: Global, source: &str) -> Result<Program, AsmFault>
     // The program or the fault is the one that the source means, unless memory runs out.
     ensures exact { ReportsAsMeant (λ p. p) result (reported (program_of source.now)) }

@@ -1,5 +1,6 @@
 pub mod Accesses
 pub mod Bursts
+pub mod Copies
 pub mod Idle
 pub mod Loads
 pub mod Quietly

@@ -2,7 +2,7 @@
 use Rattle.std.proofs.Common.{◌≡◌, ℕ, zero, suc, ◌+◌, ◌≤◌, List, [], ◌∷◌, Bool, Option, Some, None, drop, map, refl, sym, ap, ◌∙◌, arith, leb-true, leb-false}
 use Rattle.std.specs.Prelude.{false, true, slice_get, nat_le, option_map}
 use Rattle.std.proofs.lemmas.Option.{slice_get-map}
-use Rattle.evm_bus.specs.Bus.{AreIdleFrom, tick_bus, tick_bus_device}
+use Rattle.evm_devs.specs.Bus.{AreIdleFrom, tick_bus, tick_bus_device}
 use Rattle.evm_dev.specs.Attached.{Attached}
 use Rattle.evm_dev.specs.Rows.{ticked}
 use Rattle.evm_dev.specs.Touched.{Ticked}

@@ -1,6 +1,6 @@
 -- One device's tick, and the lines that devices raise.
 use Rattle.std.specs.Prelude.{ℕ, ◌<◌, Option, Some, None, ⊤}
-use Rattle.evm_bus.specs.Bus.{tick_bus}
+use Rattle.evm_devs.specs.Bus.{tick_bus}
 use Rattle.evm_lines.specs.declared.TheConstants.{LINES}
 use Rattle.evm_model.specs.Devices.{line_if, raise_line}
 use Rattle.evm_model.specs.State.{Board}

@@ -1,7 +1,7 @@
 //! The devices of a board, before its first event and behind its last one.
 
 ghost use Rattle.std.specs.Prelude.{◌≡◌, ◌<◌, ◌≤◌, [], ◌∷◌, ◌++◌, length, map};
-ghost use Rattle.evm_bus.specs.Bus.{AreIdleFrom};
+ghost use Rattle.evm_devs.specs.Bus.{AreIdleFrom};
 ghost use Rattle.evm_model.specs.Good.{AreDevices};
 ghost use Rattle.evm_model.specs.State.{on_memory};
 

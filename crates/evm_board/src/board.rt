@@ -1,9 +1,11 @@
 ghost use Rattle.std.specs.Prelude.{◌≡◌, false, length};
+ghost use Rattle.evm_devs.specs.Bus.{kinds_of};
 ghost use Rattle.evm_model.specs.Commands.{is_set, set_breakpoint, unset_breakpoint};
 ghost use Rattle.evm_model.specs.Refusals.{no_slot};
 
 use crate::memory::Memory;
 use evm_dev::Device;
+use evm_devs::CopyFrom;
 use evm_quiet::{Breakpoints, Slots};
 use evm_settle::Parts;
 use std::marker::Model;
@@ -39,6 +41,20 @@ impl<D: Device> Board<D> {
         ensures { result ≡ length self.now.breakpoints }
     {
         self.breakpoints.len()
+    }
+
+    /// What events change is as on another board, whose RAM is of the same size and whose devices are of the same kinds.
+    /// Takes no memory.
+    pub fn copy_from(&mut self, other: &Board<D>)
+    where
+        D: CopyFrom,
+        requires size { length self.old.memory.ram ≡ length other.now.memory.ram }
+        requires kinds { kinds_of self.old.memory.devices ≡ kinds_of other.now.memory.devices }
+        ensures { self.new ≡ other.now }
+    {
+        self.memory.copy_from(&other.memory);
+        self.breakpoints.copy_from(&other.breakpoints);
+        self.parts.copy_from(&other.parts);
     }
 
     /// Sets a breakpoint.

@@ -20,7 +20,7 @@ mod ticking;
 
 pub use access::Access;
 pub use board::Board;
-pub use evm_bus::Devices;
+pub use evm_devs::{CopyFrom, Devices};
 pub use evm_quiet::{Breakpoints, Slots};
 pub use evm_settle::{
     Actions, Console, Events, Flags, Harts, Mutexes, Notices, Parts, Pipe, Schedule, Semaphores,

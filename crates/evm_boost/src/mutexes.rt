@@ -10,6 +10,7 @@ use crate::slot::Slot;
 use arrayvec::ArrayVec;
 use evm_lines::{LINES, LineSet};
 use evm_model::{MUTEX_LIMIT, Mutex};
+use evm_room::copy_list;
 use std::marker::Model;
 
 /// The mutexes, in the order of their numbers.
@@ -40,6 +41,14 @@ impl Mutexes {
             mutexes: ArrayVec::new(),
             owned: Owned::none(),
         }
+    }
+
+    /// The mutexes are those of another list. Takes no memory.
+    pub fn copy_from(&mut self, other: &Mutexes)
+        ensures { self.new ≡ other.now }
+    {
+        copy_list(&mut self.mutexes, &other.mutexes);
+        self.owned.copy_from(&other.owned);
     }
 
     /// One mutex more, the last.

@@ -35,6 +35,13 @@ impl Owned {
         }
     }
 
+    // Each task owns what another owns.
+    pub(crate) fn copy_from(&mut self, other: &Owned)
+        ensures { self.new ≡ other.now }
+    {
+        self.sets = other.sets;
+    }
+
     // The mutexes of task t.
     pub(crate) fn of(&self, t: u8) -> LineSet
         ensures { slice_get self.now t ≡ Some result }

@@ -84,6 +84,15 @@ impl Schedule {
         })
     }
 
+    /// The tasks go in the order of another schedule. As many processors have queues as before. Takes no memory.
+    pub fn copy_from(&mut self, other: &Schedule)
+        ensures { self.new ≡ other.now }
+    {
+        self.ready.copy_from(&other.ready);
+        self.waiting.copy_from(&other.waiting);
+        self.sound = other.sound;
+    }
+
     // The entries of task t are what it says.
     fn enter(&mut self, tasks: &Tasks, t: u8)
         ensures places { self.new.places ≡ entered_as ready_place (slice_get tasks.now t) t self.old.places }

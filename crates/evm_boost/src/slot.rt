@@ -5,7 +5,7 @@ use evm_model::{Mutex, Protocol};
 use std::marker::Model;
 
 // The room of one mutex: a list with room from the start wants a value for each place.
-#[derive(Debug, Drop)]
+#[derive(Clone, Copy, Debug)]
 pub(crate) struct Slot {
     mutex: Mutex,
 }
@@ -16,6 +16,8 @@ impl Model for Slot {
     ghost Value = { Mutex };
 
     ghost view = { λ s. s.mutex };
+
+    ghost inverse = { λ mutex. record { mutex = mutex } };
 }
 
 impl Slot {

@@ -8,7 +8,7 @@ use Rattle.evm_host.specs.evm_serve.evm_streams.declared.source.Reading.{Reading
 use Rattle.evm_host.specs.evm_serve.evm_streams.declared.sink.Writing.{Writing}
 use Rattle.evm_command.specs.Workers.{Ends, loaded_machine, ending_status}
 use Rattle.evm_command.specs.declared.outcome.RunEnding.{RunEnding}
-use Rattle.evm_command.specs.declared.outcome.RunEnding.TheVariants.{Written, Incomplete, ImageRefused, NoMemory, WriteFailed}
+use Rattle.evm_command.specs.declared.outcome.RunEnding.TheVariants.{Written, Incomplete, Lost, ImageRefused, NoMemory, WriteFailed}
 use Rattle.evm_host.specs.Exit.{report_name}
 use Rattle.evm_host.specs.Asks.{AsksNothing, Behind, Loads}
 use Rattle.evm_host.specs.declared.system.OpenFault.{OpenFault}
@@ -23,6 +23,7 @@ module _ {E : Type 0} (reports : E → Writing → List ℕ → E → Type 0) wh
   abbrev pub ExplainsRun : List ℕ → RunEnding → E → E → Type 0
   ExplainsRun path Written e e' = e' ≡ e
   ExplainsRun path Incomplete e e' = Tells reports path e e'
+  ExplainsRun path Lost e e' = Tells reports path e e'
   ExplainsRun path ImageRefused e e' = Tells reports path e e'
   ExplainsRun path NoMemory e e' = Tells reports path e e'
   ExplainsRun path (WriteFailed fault) e e' = Tells reports report_name e e'

@@ -1,9 +1,10 @@
 -- What a run by threads writes.
-use Rattle.std.specs.Prelude.{◌≡◌, ℕ, ◌+◌, ◌*◌, ◌≤◌, ◌==◌, if◌then◌else◌, List, Result, Ok, Err, codes}
+use Rattle.std.specs.Prelude.{◌≡◌, ℕ, ◌+◌, ◌*◌, ◌<◌, ◌≤◌, ◌≢◌, ◌⊎◌, ◌==◌, if◌then◌else◌, All, List, length, Some, Result, Ok, Err, codes}
 use Rattle.std.specs.String.{string_bytes}
 use Rattle.evm_journal.specs.evm_core.Load.{load}
 use Rattle.evm_ram.specs.Images.{Contents}
 use Rattle.evm_journal.specs.Journal.{journal_text}
+use Rattle.evm_lines.specs.declared.TheConstants.{LINES}
 use Rattle.evm_model.specs.Devices.{Attached}
 use Rattle.evm_model.specs.Kinds.{AStep, ABell, kind_count}
 use Rattle.evm_model.specs.Replay.{start, IsReplayOf}
@@ -14,11 +15,13 @@ use Rattle.evm_model.specs.declared.refusal.Refusal.{Refusal}
 use Rattle.evm_model.specs.declared.refusal.Refusal.TheVariants.{BadAddress}
 use Rattle.evm_streams.specs.Writes.{Took, TookPrefix}
 use Rattle.evm_streams.specs.declared.sink.Writing.{Writing}
+use Rattle.evm_shared.specs.Ports.{PortValue, made_by}
+use Rattle.evm_shared.specs.Workers.{HasTurned, WorkerValue}
 use Rattle.evm_shared.specs.declared.event_counts.EventCounts.{EventCounts}
 use Rattle.evm_command.specs.declared.outcome.Outcome.{Outcome}
 use Rattle.evm_command.specs.declared.outcome.Outcome.TheVariants as outcomes
 use Rattle.evm_command.specs.declared.outcome.RunEnding.{RunEnding}
-use Rattle.evm_command.specs.declared.outcome.RunEnding.TheVariants.{Written, Incomplete, ImageRefused, NoMemory, WriteFailed}
+use Rattle.evm_command.specs.declared.outcome.RunEnding.TheVariants.{Written, Incomplete, Lost, ImageRefused, NoMemory, WriteFailed}
 
 -- the numbers with which the machine boots
 abbrev pub run_boot : Boot
@@ -37,28 +40,47 @@ pub record HaveMade (turns : ℕ) (made : EventCounts) : Type 0 where
   pub steps : 2 * turns ≤ made.steps
   pub bells : made.bells ≡ bells_after turns
 
+-- what each worker's port made, each port made
+abbrev pub KeepSteps : List WorkerValue → List PortValue → Type 0
+KeepSteps workers ports = (n : ℕ) → All (λ (w : WorkerValue). n ≤ w.port.share.steps) workers → All (λ (p : PortValue). n ≤ p.share.steps) ports
+
+-- a worker of this machine was refused one of its turns
+abbrev pub RefusesWorker : State → ℕ → Type 0
+RefusesWorker first turns = (old : WorkerValue) × (new : WorkerValue) × (why : Refusal) × HasTurned first 2 turns old new × (new.refused ≡ Some why)
+
+-- two ports made a Step at least of each turn, or a worker was refused one
+abbrev pub HaveTurned : State → ℕ → List PortValue → Type 0
+HaveTurned first turns ports = (2 * turns ≤ (made_by ports).steps) ⊎ RefusesWorker first turns
+
 -- a machine whose journal two workers have made longer by all their turns
 pub record HasTurns (turns : ℕ) (first machine : State) : Type 0 where
   pub steps : kind_count AStep first.journal + 2 * turns ≤ kind_count AStep machine.journal
   pub bells : kind_count ABell machine.journal ≡ kind_count ABell first.journal + bells_after turns
+
+-- a machine whose journal lacks some of them, since it has room for fewer events than there are lines
+pub record LacksRoom (turns : ℕ) (first machine : State) : Type 0 where
+  pub lacks : HasTurns turns first machine → ⊥
+  pub room : machine.boot.capacity < length machine.journal + LINES
+
+-- a machine whose journal lacks some of them, and has that room: a worker was refused a turn, or a ring is no Bell
+pub record HasLost (turns : ℕ) (first machine : State) : Type 0 where
+  pub room : length machine.journal + LINES ≤ machine.boot.capacity
+  pub why : RefusesWorker first turns ⊎ ((kind_count AStep first.journal + 2 * turns ≤ kind_count AStep machine.journal) × (kind_count ABell machine.journal ≢ kind_count ABell first.journal + bells_after turns))
 
 -- a text is the journal of a machine that is its journal's replay from the first state
 pub record IsJournalOf (first machine : State) (text : List ℕ) : Type 0 where
   pub replays : IsReplayOf first machine
   pub written : text ≡ journal_text machine.boot machine.journal
 
--- a text is the journal of a run
-abbrev pub IsJournalFrom : State → List ℕ → Type 0
-IsJournalFrom first text = (machine : State) × IsJournalOf first machine text
-
--- a text is the journal of a run in which all turns were made
-abbrev pub IsWholeJournal : ℕ → State → List ℕ → Type 0
-IsWholeJournal turns first text = (machine : State) × IsJournalOf first machine text × HasTurns turns first machine
+-- a text is the journal of a run after which the machine is such
+abbrev pub IsJournalFrom : State → List ℕ → (State → Type 0) → Type 0
+IsJournalFrom first text such = (machine : State) × IsJournalOf first machine text × such machine
 
 -- what a run of some turns that ends so has to write
 abbrev pub IsText : ℕ → Result State Refusal → RunEnding → List ℕ → Type 0
-IsText turns (Ok first) Written text = IsWholeJournal turns first text
-IsText turns (Ok first) Incomplete text = IsJournalFrom first text
+IsText turns (Ok first) Written text = IsJournalFrom first text (HasTurns turns first)
+IsText turns (Ok first) Incomplete text = IsJournalFrom first text (LacksRoom turns first)
+IsText turns (Ok first) Lost text = IsJournalFrom first text (HasLost turns first)
 IsText turns (Err refusal) ImageRefused text = (refusal ≡ BadAddress) × (text ≡ codes "refused 2 6\n")
 IsText turns loaded NoMemory text = text ≡ codes "memory\n"
 IsText turns loaded ending text = ⊥
@@ -66,12 +88,14 @@ IsText turns loaded ending text = ⊥
 abbrev pub ending_of : Outcome → RunEnding
 ending_of (outcomes.Journal text) = Written
 ending_of (outcomes.Incomplete text) = Incomplete
+ending_of (outcomes.Lost text) = Lost
 ending_of outcomes.ImageRefused = ImageRefused
 ending_of outcomes.NoMemory = NoMemory
 
 abbrev pub journal_or_fault_text : Outcome → List ℕ
 journal_or_fault_text (outcomes.Journal text) = string_bytes text
 journal_or_fault_text (outcomes.Incomplete text) = string_bytes text
+journal_or_fault_text (outcomes.Lost text) = string_bytes text
 journal_or_fault_text outcomes.ImageRefused = codes "refused 2 6\n"
 journal_or_fault_text outcomes.NoMemory = codes "memory\n"
 
@@ -89,6 +113,7 @@ module _ {W : Type 0} (takes : W → Writing → List ℕ → W → Type 0) wher
 abbrev pub ending_status : RunEnding → ℕ
 ending_status Written = 0
 ending_status Incomplete = 1
+ending_status Lost = 1
 ending_status ImageRefused = 1
 ending_status NoMemory = 1
 ending_status (WriteFailed fault) = 4

@@ -18,7 +18,6 @@ mod writing;
 pub use command::{answer, answer_read};
 pub use evm_devs::program_devices;
 pub use evm_host::host_world;
+pub use outcome::RunEnding;
 pub use program::run;
-
-#[cfg(test)]
-mod tests;
+pub use workers::threads_to;

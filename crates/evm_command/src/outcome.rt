@@ -10,8 +10,10 @@ use evm_streams::WriteFault;
 pub enum RunEnding {
     /// All turns were made, and the text of the journal was written.
     Written,
-    /// Not all turns were made, since the journal had no room for more; the text of the journal was written.
+    /// Not all turns were made, and the journal has no room for more; its text was written.
     Incomplete,
+    /// A turn was refused or a ring is no Bell, though the journal has room; its text was written.
+    Lost,
     /// Memory of a segment of the image lies past RAM: the line `refused 2 6` was written.
     ImageRefused,
     /// Memory was refused: the line `memory` was written.
@@ -27,7 +29,8 @@ impl RunEnding {
     {
         match self {
             RunEnding::Written => 0,
-            RunEnding::Incomplete | RunEnding::ImageRefused | RunEnding::NoMemory => 1,
+            RunEnding::Incomplete | RunEnding::Lost => 1,
+            RunEnding::ImageRefused | RunEnding::NoMemory => 1,
             RunEnding::WriteFailed(_) => 4,
         }
     }
@@ -38,6 +41,7 @@ impl RunEnding {
 pub(crate) enum Outcome {
     Journal(String),
     Incomplete(String),
+    Lost(String),
     ImageRefused,
     NoMemory,
 }
@@ -49,6 +53,7 @@ impl Outcome {
         match self {
             Outcome::Journal(_) => RunEnding::Written,
             Outcome::Incomplete(_) => RunEnding::Incomplete,
+            Outcome::Lost(_) => RunEnding::Lost,
             Outcome::ImageRefused => RunEnding::ImageRefused,
             Outcome::NoMemory => RunEnding::NoMemory,
         }
@@ -58,7 +63,9 @@ impl Outcome {
         ensures { result.now ≡ journal_or_fault_text self.now }
     {
         match self {
-            Outcome::Journal(text) | Outcome::Incomplete(text) => text.as_str(),
+            Outcome::Journal(text) | Outcome::Incomplete(text) | Outcome::Lost(text) => {
+                text.as_str()
+            }
             // line 2 is the boot line of the journal that would be written
             Outcome::ImageRefused => "refused 2 6\n",
             Outcome::NoMemory => "memory\n",

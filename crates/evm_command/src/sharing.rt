@@ -1,17 +1,18 @@
 //! Two workers on a machine that they share, and its journal when they are done.
 
-ghost use Rattle.std.specs.Prelude.{◌≡◌, true, None, Ok, All, IfSome, length};
+ghost use Rattle.std.specs.Prelude.{◌≡◌, ◌↔◌, None, Ok, All, IfSome, IsTrue, length};
 ghost use Rattle.evm_bells.specs.Seats.{TakerValue};
 ghost use Rattle.evm_model.specs.Replay.{IsReplayOf};
 ghost use Rattle.evm_room.specs.Growth.{RefusedWithin};
 ghost use Rattle.evm_shared.specs.EventCounts.{kind_counts};
 ghost use Rattle.evm_shared.specs.Workers.{WorkerValue};
-ghost use Rattle.evm_command.specs.Workers.{HaveMade, IsOutcome, bells_after};
+ghost use Rattle.evm_command.specs.Workers.{HaveMade, HaveTurned, IsOutcome, KeepSteps, bells_after};
 
 use crate::outcome::Outcome;
 use evm_bells::{Bells, Taker};
 use evm_dev::Device;
 use evm_journal::{Machine, write_journal};
+use evm_lines::LINES;
 use evm_room::with_room;
 use evm_shared::{Blanks, EventCounts, Gate, Origin, Port, Shared, Worker};
 use std::alloc::Global;
@@ -64,6 +65,7 @@ pub(crate) fn ports_of<S: Ledger, B: Ledger, T: Ledger>(
     mut workers: Vec<Worker<S, B, T>>,
 ) -> Option<Vec<Port<S, B, T>>>
     ensures all { IfSome result (λ ports. length ports.items ≡ length workers.items) }
+    ensures steps { IfSome result (λ ports. KeepSteps workers.items ports.items) }
     ensures refused { result ≡ None → RefusedWithin (length workers.items) }
 {
     let mut ports = match with_room(alloc, workers.len()) {
@@ -95,9 +97,12 @@ fn work<
     ports: Vec<Port<S, B, T>>,
     turns: u32,
 ) -> Option<Vec<Port<S, B, T>>>
-    ensures { IfSome result (λ ports. length ports.items ≡ 2) }
+    ensures count { IfSome result (λ ports. length ports.items ≡ 2) }
+    ensures turns { IfSome result (λ ports. HaveTurned O.start turns ports.items) }
 {
-    let (bells, mut ringer, takers) = Bells::new(alloc, WORKERS).ok()?;
+    let Ok((bells, mut ringer, takers)) = Bells::new(alloc, WORKERS) else {
+        return None;
+    };
     bells.ring(&mut ringer, 0, LINE);
     bells.ring(&mut ringer, 1, LINE);
     let mut workers = workers_of(alloc, &bells, ports, takers)?;
@@ -114,7 +119,7 @@ fn bells_after(turns: u32) -> u64
 
 // Whether the workers have made all their turns.
 fn have_made(turns: u32, made: &EventCounts) -> bool
-    ensures { result ≡ true → HaveMade turns made.now }
+    ensures { IsTrue result ↔ HaveMade turns made.now }
 {
     if made.steps < 2 * u64::from(turns) {
         return false;
@@ -122,7 +127,7 @@ fn have_made(turns: u32, made: &EventCounts) -> bool
     made.bells == bells_after(turns)
 }
 
-/// Runs two workers on a machine, for a number of turns each: its journal's text, and whether all turns were made.
+/// Runs two workers on a machine, for a number of turns each: its journal's text, and whether all turns were made, or why not.
 pub(crate) fn share<
     D: Device,
     O: Origin + Send + Sync,
@@ -154,7 +159,9 @@ pub(crate) fn share<
     };
     if have_made(turns, &finished.totals) {
         Outcome::Journal(text)
-    } else {
+    } else if finished.machine.room() < u64::from(LINES) {
         Outcome::Incomplete(text)
+    } else {
+        Outcome::Lost(text)
     }
 }

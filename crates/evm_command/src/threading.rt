@@ -38,6 +38,11 @@ fn explain_run<E: Sink>(path: &str, ending: RunEnding, errors: &mut E)
             Message::Plain("the journal has no room for all turns"),
             errors,
         ),
+        RunEnding::Lost => report(
+            path,
+            Message::Plain("a turn or a ring is missing, though the journal has room"),
+            errors,
+        ),
         RunEnding::ImageRefused => report(
             path,
             Message::Plain("memory of a segment ends past RAM of 1048576 bytes"),

@@ -48,8 +48,9 @@ fn run<D: Device, R: Threads + Wait + Sync>(
 /// Boots 2 processors with 1,048,576 bytes of RAM and room for 1,048,576 events, loads an image, rings line 8 of both
 /// processors, and runs a worker for each, in a thread of its own, for a number of turns. Then writes the text of the
 /// journal; or `refused 2 6` where the image is not loaded, or `memory` where memory was refused. The ending says whether
-/// all turns were made: then the journal has a Step at least of each turn of each worker, and a Bell of each line rung. A
-/// turn makes at most 65 Steps, 64 of which were done ahead: the journal has room for 8,000 turns.
+/// all turns were made: then the journal has a Step at least of each turn of each worker, and a Bell of each line rung. If
+/// not, it says whether the journal has room for fewer events than there are lines. A turn makes at most 65 Steps, 64 of
+/// which were done ahead: the journal has room for 8,000 turns.
 pub fn threads_to<W: Sink, D: Device, R: Threads + Wait + Sync>(
     rt: &R,
     alloc: Global,

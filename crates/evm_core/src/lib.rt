@@ -4,6 +4,7 @@
 mod accepting;
 mod booting;
 mod committing;
+mod copying;
 mod laws;
 mod machine;
 mod objects;

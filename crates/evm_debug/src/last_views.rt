@@ -36,8 +36,11 @@ fn push_all_stages<D: Device>(out: &mut String, machine: &Machine<D>) -> Result<
     Ok(())
 }
 
-/// Appends the views of a machine that a replay ends with: the stages of each processor, the tasks, and the owners of
-/// its mutexes. On an `Err` a part of them may have been appended.
+/// Appends the views that a replay ends with: the stages of each processor, the tasks, and the owners of the mutexes.
+///
+/// # Errors
+///
+/// An allocation failed. A part of the text may have been appended.
 #[tactic(auto, using(crate::proofs::Below::lengths))]
 pub fn push_summary<D: Device>(out: &mut String, machine: &Machine<D>) -> Result<(), Refused>
     ensures { Appends (summary_text machine.now) out.old out.new result }
@@ -47,7 +50,11 @@ pub fn push_summary<D: Device>(out: &mut String, machine: &Machine<D>) -> Result
     push_owners(out, machine)
 }
 
-/// The views of a machine that a replay ends with, as `push_summary` appends them.
+/// The views that a replay ends with, as `push_summary` appends them.
+///
+/// # Errors
+///
+/// An allocation failed.
 pub fn summary<D: Device>(alloc: Global, machine: &Machine<D>) -> Result<String, NoMemory>
     ensures ok { IfOk result (λ text. string_bytes text ≡ summary_text machine.now) }
     // It gives up only where a growth was refused that is no greater than the text.

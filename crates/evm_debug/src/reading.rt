@@ -151,7 +151,11 @@ pub fn read_poke(bytes: &[u8]) -> Option<(u64, Block)>
     read_poke_line(bytes)
 }
 
-/// The line that some bytes spell, without the newline.
+/// Reads a line of a script, without its newline.
+///
+/// # Errors
+///
+/// The line is outside the grammar.
 pub fn read_line(bytes: &[u8]) -> Result<Line, Bad>
     // What is read is spelled so, and each line that is spelled so is read.
     ensures spelled { (line : Line) → (result ≡ Ok line) ↔ IsSpelled line bytes.now }

@@ -52,7 +52,11 @@ fn push_shown<D: Device>(
     }
 }
 
-/// Appends the text of a view, or answers why it is refused. Where memory is refused a part of it may have been appended.
+/// Appends the text of a view.
+///
+/// # Errors
+///
+/// `Refused` if the machine refuses the view; `NoMemory` if an allocation fails: then a part of the text may have been appended.
 #[tactic(auto, using(crate::proofs::Shown::lacks))]
 pub fn push_view<D: Device>(
     out: &mut String,
@@ -74,7 +78,11 @@ pub fn push_view<D: Device>(
     }
 }
 
-/// The text of a view, or why it is refused.
+/// The text of a view.
+///
+/// # Errors
+///
+/// `Refused` if the machine refuses the view; `NoMemory` if an allocation fails.
 #[tactic(auto, using(crate::proofs::Shown::shows_all))]
 pub fn view<D: Device>(
     alloc: Global,

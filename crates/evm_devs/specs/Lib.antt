@@ -1,2 +1,3 @@
 pub mod AnyDevice
+pub mod Bus
 pub mod Devices

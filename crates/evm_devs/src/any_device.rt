@@ -1,6 +1,9 @@
+ghost use Rattle.std.specs.Prelude.{◌≡◌};
+ghost use Rattle.evm_dev.specs.declared.kind.Kind.TheVariants as kinds;
 ghost use Rattle.evm_devs.specs.AnyDevice.{kind_of_any, words_of_any};
 
 use crate::console::Console;
+use crate::copying::CopyFrom;
 use crate::mail_list::MailList;
 use crate::mail_ring::MailRing;
 use crate::pins::Pins;
@@ -53,6 +56,64 @@ impl Device for AnyDevice {
             AnyDevice::MailRing(mailbox) => mailbox.tick(),
             AnyDevice::MailList(mailbox) => mailbox.tick(),
             AnyDevice::Pins(pins) => pins.tick(),
+        }
+    }
+}
+
+// The console has the bytes of a device that is one.
+fn copy_console(console: &mut Console, other: &AnyDevice)
+    requires { kind_of_any other.now ≡ kinds.Console }
+    ensures { console.new ≡ words_of_any other.now }
+{
+    if let AnyDevice::Console(other) = other {
+        console.copy_from(other);
+    }
+}
+
+// The mailbox has the words of a device that is one.
+fn copy_ring(mailbox: &mut MailRing, other: &AnyDevice)
+    requires { kind_of_any other.now ≡ kinds.Mailbox }
+    ensures { mailbox.new ≡ words_of_any other.now }
+{
+    match other {
+        AnyDevice::MailRing(other) => mailbox.copy_from(other),
+        AnyDevice::MailList(other) => mailbox.set_words(other.as_slice()),
+        _ => {}
+    }
+}
+
+// The mailbox has the words of a device that is one.
+fn copy_list(mailbox: &mut MailList, other: &AnyDevice)
+    requires { kind_of_any other.now ≡ kinds.Mailbox }
+    ensures { mailbox.new ≡ words_of_any other.now }
+{
+    match other {
+        AnyDevice::MailList(other) => mailbox.copy_from(other),
+        AnyDevice::MailRing(other) => {
+            let (first, second) = other.parts();
+            mailbox.set_words(first, second);
+        }
+        _ => {}
+    }
+}
+
+// The pins have the words of a device that is pins.
+fn copy_pins(pins: &mut Pins, other: &AnyDevice)
+    requires { kind_of_any other.now ≡ kinds.Pins }
+    ensures { pins.new ≡ words_of_any other.now }
+{
+    if let AnyDevice::Pins(other) = other {
+        pins.copy_from(other);
+    }
+}
+
+impl CopyFrom for AnyDevice {
+    fn copy_from(&mut self, other: &AnyDevice) {
+        match self {
+            AnyDevice::Console(console) => copy_console(console, other),
+            AnyDevice::MailRing(mailbox) => copy_ring(mailbox, other),
+            AnyDevice::MailList(mailbox) => copy_list(mailbox, other),
+            AnyDevice::Pins(pins) => copy_pins(pins, other),
         }
     }
 }

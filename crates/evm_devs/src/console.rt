@@ -5,9 +5,10 @@ ghost use Rattle.evm_dev.specs.declared.kind.Kind.TheVariants as kinds;
 ghost use Rattle.evm_dev.specs.declared.touch.Op.TheVariants as ops;
 ghost use Rattle.evm_room.specs.Growth.{RefusedWithin};
 
+use crate::copying::CopyFrom;
 use circular_buffer::HeapCircularBuffer;
 use evm_dev::{CONSOLE_LIMIT, Device, Kind, Op, Touch};
-use evm_room::{NoMemory, ring};
+use evm_room::{NoMemory, copy_ring, ring};
 use std::alloc::Global;
 use std::marker::Model;
 
@@ -102,5 +103,11 @@ impl Device for Console {
 
     fn tick(&mut self) -> bool {
         false
+    }
+}
+
+impl CopyFrom for Console {
+    fn copy_from(&mut self, other: &Console) {
+        copy_ring(&mut self.bytes, &other.bytes);
     }
 }

@@ -4,10 +4,10 @@ ghost use Rattle.std.specs.Prelude.{◌≡◌, IfOk};
 ghost use Rattle.evm_devs.specs.Devices.{program_devices};
 
 use crate::any_device::AnyDevice;
+use crate::attached::Devices;
 use crate::console::Console;
 use crate::mail_ring::MailRing;
 use crate::pins::Pins;
-use evm_bus::Devices;
 use evm_room::NoMemory;
 use std::alloc::Global;
 

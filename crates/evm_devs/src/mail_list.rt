@@ -1,12 +1,13 @@
-ghost use Rattle.std.specs.Prelude.{◌≡◌, ◌∷◌, ◌++◌, [], Ok};
+ghost use Rattle.std.specs.Prelude.{◌≡◌, ◌≤◌, ◌+◌, ◌∷◌, ◌++◌, [], length, Ok};
 ghost use Rattle.evm_dev.specs.Mailbox.{last_words};
 ghost use Rattle.evm_dev.specs.Rows.{touched};
 ghost use Rattle.evm_dev.specs.declared.kind.Kind.TheVariants as kinds;
 ghost use Rattle.evm_dev.specs.declared.touch.Op.TheVariants as ops;
 
+use crate::copying::CopyFrom;
 use arrayvec::ArrayVec;
 use evm_dev::{Device, Kind, MAILBOX_LIMIT, Op, Touch};
-use evm_room::NoMemory;
+use evm_room::{NoMemory, copy_list};
 use std::alloc::Global;
 use std::marker::Model;
 
@@ -32,6 +33,24 @@ impl MailList {
         Ok(MailList {
             words: ArrayVec::new(),
         })
+    }
+
+    // The words are these, in two parts.
+    pub(crate) fn set_words(&mut self, first: &[u64], second: &[u64])
+        requires { length first.now + length second.now ≤ MAILBOX_LIMIT }
+        ensures { self.new ≡ first.now ++ second.now }
+    {
+        self.words.clear();
+        let _first = self.words.try_extend_from_slice(first);
+        let _second = self.words.try_extend_from_slice(second);
+    }
+
+    // The words, the oldest first.
+    pub(crate) fn as_slice(&self) -> &[u64]
+        ensures words { result.now ≡ self.now }
+        ensures limit { length result.now ≤ MAILBOX_LIMIT }
+    {
+        self.words.as_slice()
     }
 
     fn fetch(&mut self, register: u8) -> Touch
@@ -99,5 +118,11 @@ impl Device for MailList {
 
     fn tick(&mut self) -> bool {
         false
+    }
+}
+
+impl CopyFrom for MailList {
+    fn copy_from(&mut self, other: &MailList) {
+        copy_list(&mut self.words, &other.words);
     }
 }

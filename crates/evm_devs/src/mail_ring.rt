@@ -1,12 +1,13 @@
-ghost use Rattle.std.specs.Prelude.{◌≡◌, [], IfOk, OnErr};
+ghost use Rattle.std.specs.Prelude.{◌≡◌, ◌≤◌, ◌++◌, [], length, IfOk, OnErr};
 ghost use Rattle.evm_dev.specs.Rows.{touched};
 ghost use Rattle.evm_dev.specs.declared.kind.Kind.TheVariants as kinds;
 ghost use Rattle.evm_dev.specs.declared.touch.Op.TheVariants as ops;
 ghost use Rattle.evm_room.specs.Growth.{RefusedWithin};
 
+use crate::copying::CopyFrom;
 use circular_buffer::HeapCircularBuffer;
 use evm_dev::{Device, Kind, MAILBOX_LIMIT, Op, Touch};
-use evm_room::{NoMemory, ring};
+use evm_room::{NoMemory, copy_ring, ring};
 use std::alloc::Global;
 use std::marker::Model;
 
@@ -44,6 +45,25 @@ impl MailRing {
                 Err(NoMemory)
             }
         }
+    }
+
+    // The words are these.
+    #[tactic(auto, using(evm_room::proofs::Rings::filled))]
+    pub(crate) fn set_words(&mut self, words: &[u64])
+        requires { length words.now ≤ MAILBOX_LIMIT }
+        ensures { self.new ≡ words.now }
+    {
+        self.words.clear();
+        let _count = self.words.fill_from_slice(words);
+    }
+
+    // The words, the oldest first, in two parts.
+    pub(crate) fn parts(&self) -> (&[u64], &[u64])
+        ensures parts { result.0.now ++ result.1.now ≡ self.now }
+        ensures limit { length self.now ≤ MAILBOX_LIMIT }
+    {
+        let _len = self.words.len();
+        self.words.as_slices()
     }
 
     fn fetch(&mut self, register: u8) -> Touch
@@ -101,5 +121,11 @@ impl Device for MailRing {
 
     fn tick(&mut self) -> bool {
         false
+    }
+}
+
+impl CopyFrom for MailRing {
+    fn copy_from(&mut self, other: &MailRing) {
+        copy_ring(&mut self.words, &other.words);
     }
 }

@@ -3,6 +3,7 @@ ghost use Rattle.evm_dev.specs.Rows.{touched};
 ghost use Rattle.evm_dev.specs.declared.kind.Kind.TheVariants as kinds;
 ghost use Rattle.evm_dev.specs.declared.touch.Op.TheVariants as ops;
 
+use crate::copying::CopyFrom;
 use evm_dev::{Device, Kind, Op, Touch};
 use std::marker::Model;
 
@@ -109,5 +110,13 @@ impl Device for Pins {
         let raise = self.count == 1;
         self.count = self.count.saturating_sub(1);
         raise
+    }
+}
+
+impl CopyFrom for Pins {
+    fn copy_from(&mut self, other: &Pins) {
+        self.level = other.level;
+        self.mask = other.mask;
+        self.count = other.count;
     }
 }

@@ -40,7 +40,7 @@ pub enum ImageDetail {
 }
 
 impl ImageDetail {
-    /// What to do about it, for details that have no number.
+    /// What the user can do about it. `None` for a detail that has a number.
     pub fn hint(self) -> Option<&'static str>
         ensures { option_copied result ≡ hint_of self }
     {
@@ -186,7 +186,7 @@ fn long_detail(file: &[u8], fault: ElfFault) -> Option<ImageDetail>
     }
 }
 
-/// What is behind the fault of a file, where there is more to say than its message.
+/// The values of the file behind a fault, as an address. `None` if the message says all.
 pub fn image_detail(file: &[u8], fault: ElfFault) -> Option<ImageDetail>
     ensures { result ≡ image_detail file.now fault }
 {

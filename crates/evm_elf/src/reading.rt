@@ -92,12 +92,11 @@ fn image(alloc: Global, file: &[u8]) -> Result<Image, Refused>
     Ok(Image::new(long_at(file, 24), segments))
 }
 
-/// Reads an ELF64 file as the image of a program (System V gABI, chapters 4 and 5).
+/// Reads an ELF64 file as an image (System V gABI, chapters 4 and 5).
 ///
 /// # Errors
 ///
-/// The first fault of the file, whether there is memory or not, and `NoMemory` where the file has none and
-/// memory ran out.
+/// The first fault of the file, in the order of their numbers; `NoMemory` if the file has none and an allocation fails.
 #[tactic(auto, using(crate::proofs::Sound::has_header, crate::proofs::Sound::never_memory))]
 pub fn read_image(alloc: Global, file: &[u8]) -> Result<Image, ElfFault>
     ensures ok { IfOk result (λ image. (fault_of file.now ≡ None) × Loads file.now image) }

@@ -100,11 +100,11 @@ fn written(alloc: Global, bytes: &[u8]) -> Result<Vec<u8>, Refused>
     Ok(file)
 }
 
-/// The ELF64 file of a program whose bytes are these and lie at the start of the range, where it begins.
+/// The ELF64 file of a program of at most 16,777,216 bytes: one segment, which is loaded at 0x80000000 and entered at its first byte.
 ///
 /// # Errors
 ///
-/// Memory ran out.
+/// `NoMemory` if an allocation fails; none is larger than the file.
 #[tactic(auto, using(crate::proofs::Written::length_file))]
 pub fn write_bytes(alloc: Global, bytes: &[u8]) -> Result<Vec<u8>, NoMemory>
     requires { length bytes.now ≤ PROGRAM_MAX }
@@ -121,11 +121,11 @@ pub fn write_bytes(alloc: Global, bytes: &[u8]) -> Result<Vec<u8>, NoMemory>
     }
 }
 
-/// The ELF64 file of an assembled program.
+/// The ELF64 file of an assembled program, as `write_bytes` makes it.
 ///
 /// # Errors
 ///
-/// Memory ran out.
+/// `NoMemory` if an allocation fails.
 pub fn write_image(alloc: Global, program: &Program) -> Result<Vec<u8>, NoMemory>
     ensures ok { IfOk result (λ file. file.items ≡ file_of program.now.bytes) }
     // It gives up only where a growth was refused that isn't greater than the file.

@@ -48,22 +48,28 @@ fn map_in<S: System>(
     }
 }
 
+/// The file of a map, and whether the command line names it. One that isn't named may be missing.
+#[derive(Clone, Copy)]
+struct MapFile<'a> {
+    path: &'a str,
+    is_named: bool,
+}
+
 // The map of a file; none where there is no such file, and it need not be there.
 fn map_at<S: System>(
     alloc: Global,
     program: &str,
-    path: &str,
-    is_named: bool,
+    map: MapFile<'_>,
     world: &mut World<S>,
 ) -> Result<Option<Map>, u8> {
-    let mut file = match world.files.open(path) {
+    let mut file = match world.files.open(map.path) {
         Ok(file) => file,
-        Err(OpenFault::Missing | OpenFault::NameTooLong) if !is_named => return Ok(None),
-        Err(fault) => return Err(not_opened(path, fault, &mut world.errors)),
+        Err(OpenFault::Missing | OpenFault::NameTooLong) if !map.is_named => return Ok(None),
+        Err(fault) => return Err(not_opened(map.path, fault, &mut world.errors)),
     };
     match read_utf8(alloc, &mut file) {
-        Ok(text) => Ok(Some(map_in(alloc, program, path, text.as_str(), world)?)),
-        Err(stop) => Err(not_read(stop, path, world)),
+        Ok(text) => Ok(Some(map_in(alloc, program, map.path, text.as_str(), world)?)),
+        Err(stop) => Err(not_read(stop, map.path, world)),
     }
 }
 
@@ -81,18 +87,17 @@ fn map_beside<S: System>(
     }
 }
 
-// The symbols of an image and the map of a path. A map of another build is refused if it was named, and else left out.
+// The symbols of an image and the map of a file. A map of another build is refused if it was named, and else left out.
 fn names_with<S: System>(
     alloc: Global,
     program: &str,
     image: &str,
-    path: &str,
-    is_named: bool,
+    file: MapFile<'_>,
     world: &mut World<S>,
 ) -> Result<Names, u8> {
     let bytes = bytes_at(alloc, image, world)?;
     let symbols = symbols_in(alloc, program, bytes.as_slice(), world)?;
-    let Some(map) = map_at(alloc, program, path, is_named, world)? else {
+    let Some(map) = map_at(alloc, program, file, world)? else {
         let map = Map::new(alloc);
         return Ok(Names { symbols, map });
     };
@@ -100,15 +105,15 @@ fn names_with<S: System>(
     if names.is_of(bytes.as_slice()) {
         return Ok(names);
     }
-    if is_named {
+    if file.is_named {
         let message = Message::Plain("it is the map of another build: make it again with kit/map");
-        report(path, message, &mut world.errors);
+        report(file.path, message, &mut world.errors);
         return Err(1);
     }
     let message = Message::Plain(
         "left out: it is the map of another build; make it again with kit/map",
     );
-    report(path, message, &mut world.errors);
+    report(file.path, message, &mut world.errors);
     names.map = Map::new(alloc);
     Ok(names)
 }
@@ -127,10 +132,20 @@ pub fn names_at<S: System>(
     world: &mut World<S>,
 ) -> Result<Names, u8> {
     match map {
-        Some(path) => names_with(alloc, program, image, path, true, world),
+        Some(path) => {
+            let file = MapFile {
+                path,
+                is_named: true,
+            };
+            names_with(alloc, program, image, file, world)
+        }
         None => {
             let path = map_beside(alloc, program, image, world)?;
-            names_with(alloc, program, image, path.as_str(), false, world)
+            let file = MapFile {
+                path: path.as_str(),
+                is_named: false,
+            };
+            names_with(alloc, program, image, file, world)
         }
     }
 }

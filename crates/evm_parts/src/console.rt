@@ -3,7 +3,7 @@ ghost use Rattle.evm_model.specs.InBandCalls.{last_bytes};
 
 use circular_buffer::HeapCircularBuffer;
 use evm_model::CONSOLE_LIMIT;
-use evm_room::{Refused, ring};
+use evm_room::{Refused, copy_ring, ring};
 use std::alloc::Global;
 use std::marker::Model;
 
@@ -36,6 +36,13 @@ impl Console {
     {
         let bytes = ring(alloc, CONSOLE_LIMIT)?;
         Ok(Console { bytes })
+    }
+
+    /// The bytes are those of another console. Takes no memory.
+    pub fn copy_from(&mut self, other: &Console)
+        ensures { self.new ≡ other.now }
+    {
+        copy_ring(&mut self.bytes, &other.bytes);
     }
 
     /// One byte more; where there is no room the first one goes.

@@ -12,6 +12,7 @@ use evm_health::Notices;
 use evm_lines::LINES;
 use evm_model::{FIRST_LINES, PROCESSOR_LIMIT, Processor, Profile, Stage, WIDE_PROFILE};
 use evm_pipe::Pipe;
+use evm_room::copy_list;
 use evm_sync::{Actions, Events, Flags, Semaphores};
 use evm_task::{Harts, Tasks};
 use evm_tick::{Timers, Watches};
@@ -85,6 +86,29 @@ impl Model for Parts {
 }
 
 impl Parts {
+    /// Each part is that of another machine. Takes no memory.
+    pub fn copy_from(&mut self, other: &Parts)
+        ensures { self.new ≡ other.now }
+    {
+        self.profile = other.profile;
+        self.ticks = other.ticks;
+        self.harts.copy_from(&other.harts);
+        self.tasks.copy_from(&other.tasks);
+        copy_list(&mut self.processors, &other.processors);
+        copy_list(&mut self.pipes, &other.pipes);
+        self.watches.copy_from(&other.watches);
+        self.stamps = other.stamps;
+        self.mutexes.copy_from(&other.mutexes);
+        self.schedule.copy_from(&other.schedule);
+        self.semaphores.copy_from(&other.semaphores);
+        self.events.copy_from(&other.events);
+        self.flags.copy_from(&other.flags);
+        self.timers.copy_from(&other.timers);
+        self.actions.copy_from(&other.actions);
+        self.console.copy_from(&other.console);
+        self.notices.copy_from(&other.notices);
+    }
+
     /// How many interrupt lines a processor has.
     pub fn line_count(&self) -> u8
         ensures { result ≡ line_count self.now.profile }

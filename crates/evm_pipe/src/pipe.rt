@@ -9,7 +9,7 @@ use evm_model::{Counts, Passage, Stage, StageLog};
 use std::marker::Model;
 
 /// The pipe of one processor.
-#[derive(Debug, Drop)]
+#[derive(Clone, Copy, Debug)]
 pub struct Pipe {
     oob: StageLog,
     in_band: StageLog,
@@ -23,6 +23,8 @@ impl Model for Pipe {
     ghost Value = { model.Pipe };
 
     ghost view = { λ p. record { oob = p.oob; in_band = p.in_band; wire = p.wire; counts = p.counts } };
+
+    ghost inverse = { λ p. record { oob = p.oob; in_band = p.in_band; wire = p.wire; counts = p.counts } };
 }
 
 fn idle_log() -> StageLog

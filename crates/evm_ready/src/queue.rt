@@ -38,6 +38,14 @@ impl Queue {
         }
     }
 
+    // All tasks go.
+    #[inline]
+    pub(crate) fn clear(&mut self)
+        ensures { self.new ≡ [] }
+    {
+        self.len = 0;
+    }
+
     // The task that goes first.
     #[inline]
     pub(crate) fn head(&self) -> Option<u8>

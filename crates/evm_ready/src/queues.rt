@@ -51,6 +51,16 @@ impl Queues {
         self.queues.len()
     }
 
+    // All tasks go.
+    #[tactic(auto, using(crate::proofs::Cleared::bitmap_clear))]
+    pub(crate) fn clear(&mut self)
+        ensures empty { AreEmpty self.new 0 (length self.new) }
+        ensures count { length self.new ≡ length self.old }
+    {
+        clear_all(&mut self.queues);
+        self.words = [0; BITMAP_WORDS];
+    }
+
     // Task t comes to the queue of its turn.
     #[inline(always)]
     pub(crate) fn join(&mut self, turns: &[Turn], t: u8)
@@ -156,6 +166,16 @@ fn queue_of(turns: &[Turn], t: u8) -> Option<usize>
     match turns.get(t as usize) {
         Some(Turn { queue: Some(q), .. }) => Some(*q as usize),
         _ => None,
+    }
+}
+
+// All tasks go.
+fn clear_all(queues: &mut Vec<Queue>)
+    ensures empty { AreEmpty queues.new.items 0 (length queues.new.items) }
+    ensures count { length queues.new.items ≡ length queues.old.items }
+{
+    for queue in queues.iter_mut() {
+        queue.clear();
     }
 }
 

@@ -13,7 +13,7 @@ use crate::place::{IN_BAND_LEVEL, LEVELS, Place, oob_bit, runs_in_band, runs_oob
 use crate::turns::Turns;
 use arrayvec::ArrayVec;
 use evm_model::{PROCESSOR_LIMIT, TASK_LIMIT};
-use evm_room::Refused;
+use evm_room::{Refused, copy_list};
 use std::alloc::Global;
 use std::marker::Model;
 
@@ -85,6 +85,16 @@ impl Ready {
         self.places.push(place);
         self.ranks.push(rank);
         self.turns.push(turn_of(place, rank));
+    }
+
+    /// The tasks are where others are. As many processors have queues as before. Takes no memory.
+    pub fn copy_from(&mut self, other: &Ready)
+        ensures { self.new ≡ other.now }
+    {
+        copy_list(&mut self.places, &other.places);
+        copy_list(&mut self.ranks, &other.ranks);
+        self.oob = other.oob;
+        self.turns.copy_from(&other.turns);
     }
 
     fn get(&self, t: u8) -> Option<Place>

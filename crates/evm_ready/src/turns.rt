@@ -65,6 +65,27 @@ impl Turns {
         self.queues.join_apart(self.turns.as_slice(), t);
     }
 
+    // No task.
+    #[tactic(auto, using(crate::proofs::Cleared::none_queued))]
+    fn clear(&mut self)
+        ensures turns { self.new.turns ≡ [] }
+        ensures count { self.new.count ≡ self.old.count }
+    {
+        self.queues.clear();
+        self.turns.clear();
+    }
+
+    /// The tasks have the turns of others. There are as many queues as before. Takes no memory.
+    pub fn copy_from(&mut self, other: &Turns)
+        ensures turns { self.new.turns ≡ other.now.turns }
+        ensures count { self.new.count ≡ self.old.count }
+    {
+        self.clear();
+        for turn in other.turns.as_slice() {
+            self.push(*turn);
+        }
+    }
+
     /// Task t has this turn.
     // A turn that is passed by its address is stored in parts and read as a whole.
     #[inline(always)]

@@ -24,9 +24,8 @@ fn write_file<W: Sink>(alloc: Global, program: &Program, out: &mut W) -> Result<
     }
 }
 
-/// Assembles a source, and writes the image of its program to `out`. Where the source has a fault, the line
-/// `asm LINE CODE` is reported and nothing is written. Where an allocation fails, the line `memory` is reported
-/// and nothing is written, since the file is whole before its first byte is written.
+/// Assembles a source, and writes the ELF file of its program to `out`. If the source has a fault, `report` gets the line `asm LINE CODE`;
+/// if an allocation fails, the line `memory`. Then nothing is written to `out`.
 #[tactic(auto, using(crate::proofs::Memory::memory))]
 pub fn assemble_to<W: Sink, T: Sink>(
     alloc: Global,

@@ -60,14 +60,14 @@ impl Notes {
         }
     }
 
-    /// How many Steps of the last line did nothing, since their processor was stopped.
+    /// The Steps of the last line that had no effect because their processor was stopped.
     pub fn swallowed(&self) -> u32
         ensures { result ≡ self.now.swallowed }
     {
         self.swallowed
     }
 
-    /// The last call of a task, if it has made one.
+    /// The last call of a task, 0 to 63. `None` if it has made none.
     pub fn last_call(&self, t: u8) -> Option<LastCall>
         ensures { result ≡ last_call (slice_get self.now.calls t) }
     {

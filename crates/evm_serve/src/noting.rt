@@ -73,10 +73,8 @@ pub(crate) fn noted_steps<D: Device>(
     let mut left = count;
     while left > 0 {
         let ahead = ahead_of(machine, c);
-        match machine.apply(Event::Step(c)) {
-            Ok(answer) => notes.note_step(answer, ahead),
-            Err(refusal) => return Err(refusal),
-        }
+        let answer = machine.apply(Event::Step(c))?;
+        notes.note_step(answer, ahead);
         left -= 1;
     }
     Ok(())

@@ -32,6 +32,20 @@ use evm_room::NoMemory;
 use evm_streams::LineFault;
 use std::alloc::Global;
 
+/// A line of a script, and its number, from 1.
+#[derive(Clone, Copy)]
+pub(crate) struct NumberedLine<'a> {
+    pub(crate) number: u64,
+    pub(crate) text: &'a [u8],
+}
+
+/// The machine of a script, if a line has booted it, and until then the devices that it boots with.
+#[derive(Drop)]
+pub(crate) struct Bootable<D: Device> {
+    pub(crate) devices: Option<Devices<D>>,
+    pub(crate) machine: Option<Machine<D>>,
+}
+
 // A boot, with the options.
 fn run_boot<D: Device>(
     alloc: Global,
@@ -60,28 +74,22 @@ fn run_boot<D: Device>(
 fn run_unbooted<D: Device>(
     alloc: Global,
     image: Option<&Image>,
-    held: &mut Option<Devices<D>>,
     number: u64,
     line: &Line,
-    machine: &mut Option<Machine<D>>,
+    run: &mut Bootable<D>,
 ) -> Result<Reply, NoMemory>
-    requires { machine.old ≡ Option.None }
-    ensures outcome { (devices : List Attached) → held.old ≡ Option.Some devices → IfOk result (λ reply. Replies reply [] machine.new (unbooted_outcome (record { image = option_copied image.entry; devices = devices }) number line.now)) }
-    ensures held { (devices : List Attached) → held.old ≡ Option.Some devices → IfOk result (λ reply. StillHoldsDevices reply machine.new held.new devices) }
+    requires { run.old.machine ≡ Option.None }
+    ensures outcome { (devices : List Attached) → run.old.devices ≡ Option.Some devices → IfOk result (λ reply. Replies reply [] run.new.machine (unbooted_outcome (record { image = option_copied image.entry; devices = devices }) number line.now)) }
+    ensures held { (devices : List Attached) → run.old.devices ≡ Option.Some devices → IfOk result (λ reply. StillHoldsDevices reply run.new.machine run.new.devices devices) }
     ensures note { IfOk result (λ reply. reply_note reply ≡ Option.None) }
     ensures memory { OnErr result MemoryRefused }
 {
     match line {
         Line::Blank => Ok(Reply::Goes(None)),
-        Line::Boot(numbers) => match held.take() {
+        Line::Boot(numbers) => match run.devices.take() {
             Some(devices) => {
-                run_boot(
-                    alloc,
-                    RunOptions { image, devices },
-                    number,
-                    numbers,
-                    machine,
-                )
+                let options = RunOptions { image, devices };
+                run_boot(alloc, options, number, numbers, &mut run.machine)
             }
             None => Ok(Reply::Ends(InputFault::BadLine(number, LineFault::BootedAgain))),
         },
@@ -174,52 +182,49 @@ fn run_booted<D: Device>(
 fn run_any<D: Device>(
     alloc: Global,
     image: Option<&Image>,
-    held: &mut Option<Devices<D>>,
-    number: u64,
-    line: &[u8],
-    machine: &mut Option<Machine<D>>,
+    line: &NumberedLine<'_>,
+    run: &mut Bootable<D>,
     text: &mut String,
 ) -> Result<Reply, NoMemory>
     requires { string_bytes text.old ≡ [] }
-    ensures outcome { (devices : List Attached) → HoldsDevices machine.old held.old devices → IfOk result (λ reply. Replies reply (string_bytes text.new) machine.new (line_outcome (record { image = option_copied image.entry; devices = devices }) number machine.old (line_at line.now))) }
-    ensures held { (devices : List Attached) → HoldsDevices machine.old held.old devices → IfOk result (λ reply. StillHoldsDevices reply machine.new held.new devices) }
-    ensures note { IfOk result (λ reply. reply_note reply ≡ noted_at machine.old (line_at line.now)) }
+    ensures outcome { (devices : List Attached) → HoldsDevices run.old.machine run.old.devices devices → IfOk result (λ reply. Replies reply (string_bytes text.new) run.new.machine (line_outcome (record { image = option_copied image.entry; devices = devices }) line.now.number run.old.machine (line_at line.now.text.now))) }
+    ensures held { (devices : List Attached) → HoldsDevices run.old.machine run.old.devices devices → IfOk result (λ reply. StillHoldsDevices reply run.new.machine run.new.devices devices) }
+    ensures note { IfOk result (λ reply. reply_note reply ≡ noted_at run.old.machine (line_at line.now.text.now)) }
     ensures memory { OnErr result MemoryRefused }
 {
-    let Ok(line) = read_line(line) else {
+    let number = line.number;
+    let Ok(line) = read_line(line.text) else {
         return Ok(Reply::Ends(InputFault::BadLine(number, LineFault::OutsideGrammar)));
     };
-    match machine {
-        None => run_unbooted(alloc, image, held, number, &line, machine),
+    match &mut run.machine {
+        None => run_unbooted(alloc, image, number, &line, run),
         Some(booted) => run_booted(number, line, booted, text),
     }
 }
 
-/// Runs the line of this number of a script on the machine, if one is booted, and leaves its text in `text`. The boot line
-/// takes the devices that are held for it, and loads the image, if there is one.
+/// Runs a line of a script on the machine, if one is booted, and leaves its text in `text`. The boot line takes the devices, and loads the
+/// image, if there is one.
 #[inline(always)]
 pub(crate) fn run_line<D: Device>(
     alloc: Global,
     image: Option<&Image>,
-    held: &mut Option<Devices<D>>,
-    number: u64,
-    line: &[u8],
-    machine: &mut Option<Machine<D>>,
+    line: &NumberedLine<'_>,
+    run: &mut Bootable<D>,
     text: &mut String,
 ) -> Result<Reply, NoMemory>
-    ensures outcome { (devices : List Attached) → HoldsDevices machine.old held.old devices → IfOk result (λ reply. Replies reply (string_bytes text.new) machine.new (line_outcome (record { image = option_copied image.entry; devices = devices }) number machine.old (line_at line.now))) }
-    ensures held { (devices : List Attached) → HoldsDevices machine.old held.old devices → IfOk result (λ reply. StillHoldsDevices reply machine.new held.new devices) }
-    ensures note { IfOk result (λ reply. reply_note reply ≡ noted_at machine.old (line_at line.now)) }
+    ensures outcome { (devices : List Attached) → HoldsDevices run.old.machine run.old.devices devices → IfOk result (λ reply. Replies reply (string_bytes text.new) run.new.machine (line_outcome (record { image = option_copied image.entry; devices = devices }) line.now.number run.old.machine (line_at line.now.text.now))) }
+    ensures held { (devices : List Attached) → HoldsDevices run.old.machine run.old.devices devices → IfOk result (λ reply. StillHoldsDevices reply run.new.machine run.new.devices devices) }
+    ensures note { IfOk result (λ reply. reply_note reply ≡ noted_at run.old.machine (line_at line.now.text.now)) }
     ensures memory { OnErr result MemoryRefused }
 {
     text.clear();
-    if let Some(booted) = machine {
-        if let Some(short) = read_short(line) {
-            return Ok(run_short(number, short, booted));
+    if let Some(booted) = &mut run.machine {
+        if let Some(short) = read_short(line.text) {
+            return Ok(run_short(line.number, short, booted));
         }
-        if let Some((address, block)) = read_poke(line) {
-            return Ok(run_event(number, Event::Poke(address, &block), booted));
+        if let Some((address, block)) = read_poke(line.text) {
+            return Ok(run_event(line.number, Event::Poke(address, &block), booted));
         }
     }
-    run_any(alloc, image, held, number, line, machine, text)
+    run_any(alloc, image, line, run, text)
 }

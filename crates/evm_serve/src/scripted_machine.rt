@@ -35,7 +35,7 @@ impl<'a> Model for ScriptedMachine<'a> {
 }
 
 impl<'a> ScriptedMachine<'a> {
-    /// One without a machine, for an image.
+    /// No machine yet; a boot line loads the image.
     pub fn new(image: &'a Image) -> Self
         ensures { result ≡ record { image = image.now; sitting = None } }
     {
@@ -45,12 +45,12 @@ impl<'a> ScriptedMachine<'a> {
         }
     }
 
-    /// Does a line of a script, without its newline, and leaves the text of its view in `text`. The first line boots the machine. The
-    /// Steps of the line and the calls of tasks are noted.
+    /// Does a line of a script, without its newline, and replaces `text` by the text of its view. The first line boots the machine. `notes`
+    /// gets the Steps of the line and the calls of tasks.
     ///
     /// # Errors
     ///
-    /// Why the line is not done. Nothing has changed.
+    /// Why the line is not done. The machine is unchanged.
     pub fn run(
         &mut self,
         alloc: Global,
@@ -70,13 +70,9 @@ impl<'a> ScriptedMachine<'a> {
         let Ok(devices) = program_devices(alloc) else {
             return Err(ScriptStop::NoMemory);
         };
-        match Session::boot(alloc, self.image, devices, line) {
-            Ok(session) => {
-                self.session = Some(session);
-                Ok(())
-            }
-            Err(stop) => Err(stop),
-        }
+        let session = Session::boot(alloc, self.image, devices, line)?;
+        self.session = Some(session);
+        Ok(())
     }
 
     /// The machine, if it is booted.
@@ -95,7 +91,7 @@ impl<'a> ScriptedMachine<'a> {
         }
     }
 
-    /// The lines that were done, each with a newline, are a script that leaves the machine.
+    /// The lines that were done, each with a newline, are a script whose run makes the machine.
     #[tactic(auto, using(crate::proofs::SessionTexts::leaves))]
     pub fn rules(&self)
         ensures { LeavesMachine self.now.image self.now.sitting }

@@ -10,43 +10,44 @@ use crate::ending::{Ending, Halt, Reply, Verdict};
 use crate::nowhere::Nowhere;
 use crate::options::RunOptions;
 use crate::run_end::{ended, unread, write_fault};
-use crate::script_line::run_line;
+use crate::script_line::{Bootable, NumberedLine, run_line};
 use evm_dev::Device;
 use evm_diagnostics::{cut_line, report_ended, report_note};
 use evm_streams::{Sink, Source, read_all, write_all};
 use std::alloc::Global;
 
+/// A script, and the name that its messages begin with.
+#[derive(Clone, Copy)]
+struct NamedScript<'a> {
+    name: &'a str,
+    text: &'a [u8],
+}
+
 // Runs the lines of a script.
 fn play<W: Sink, E: Sink, D: Device>(
     alloc: Global,
     options: RunOptions<'_, D>,
-    name: &str,
-    script: &[u8],
+    script: &NamedScript<'_>,
     writer: &mut W,
     errors: &mut E,
 ) -> Result<Verdict, Halt>
-    ensures report { Plays W.takes (script_report options.entry script.now) writer.old writer.new result }
-    ensures noted { PlaysNotes E.takes (notes options.entry name.now script.now) result errors.old errors.new }
+    ensures report { Plays W.takes (script_report options.entry script.now.text.now) writer.old writer.new result }
+    ensures noted { PlaysNotes E.takes (notes options.entry script.now.name.now script.now.text.now) result errors.old errors.new }
 {
     let RunOptions { image, devices } = options;
-    let mut held = Some(devices);
-    let mut machine = None;
+    let mut run = Bootable {
+        devices: Some(devices),
+        machine: None,
+    };
     let mut text = String::new(alloc);
-    let mut rest = script;
+    let mut rest = script.text;
     let mut number = 1u64;
     'lines: while let Some((line, after)) = cut_line(rest) {
-        match run_line(
-            alloc,
-            image,
-            &mut held,
-            number,
-            line,
-            &mut machine,
-            &mut text,
-        ) {
+        let line = NumberedLine { number, text: line };
+        match run_line(alloc, image, &line, &mut run, &mut text) {
             Err(_) => return Err(Halt::NoMemory),
             Ok(Reply::Goes(note)) => {
-                report_note(name, number, note, errors);
+                report_note(script.name, number, note, errors);
                 if let Err(fault) = write_all(writer, text.as_bytes()) {
                     return Err(Halt::WriteFailed(fault));
                 }
@@ -56,13 +57,12 @@ fn play<W: Sink, E: Sink, D: Device>(
         rest = after;
         number += 1;
     }
-    report_ended(name, &machine, errors);
+    report_ended(script.name, &run.machine, errors);
     Ok(Verdict::Done)
 }
 
-/// Runs the lines of a script of this name, and writes its report. The machine boots with the devices and the image of the
-/// options. `errors` gets the notes on lines whose processor is stopped, and on
-/// tasks that ended by a fault.
+/// Runs the lines of a script and writes its report. The boot line boots the machine with the devices and the image of the options.
+/// `errors` gets the notes on lines whose processor is stopped, and on tasks that ended by a fault.
 pub fn run_script<W: Sink, E: Sink, D: Device>(
     alloc: Global,
     options: RunOptions<'_, D>,
@@ -74,7 +74,8 @@ pub fn run_script<W: Sink, E: Sink, D: Device>(
     ensures report { Finishes W.takes (script_report options.entry script.now) writer.old writer.new result }
     ensures noted { EndsNotes E.takes (notes options.entry name.now script.now) result errors.old errors.new }
 {
-    let outcome = play(alloc, options, name, script, writer, errors);
+    let named = NamedScript { name, text: script };
+    let outcome = play(alloc, options, &named, writer, errors);
     ended(outcome, writer)
 }
 

@@ -36,11 +36,11 @@ impl<D: Device> Model for Session<D> {
 }
 
 impl<D: Device> Session<D> {
-    /// The session that a boot line begins: the machine has the devices, and the image in it.
+    /// Begins a session by a boot line, without its newline. The machine has the devices, and the image is loaded.
     ///
     /// # Errors
     ///
-    /// `NotBooted` where it is another line, and why there is no such machine.
+    /// `NotBooted` if the line is another one; else why no such machine boots.
     #[tactic(auto, using(crate::proofs::Behind::first))]
     pub fn boot(
         alloc: Global,
@@ -62,10 +62,8 @@ impl<D: Device> Session<D> {
             return Err(ScriptStop::NoMemory);
         };
         lines.push_reserved(plain);
-        match boot(alloc, image, devices, line) {
-            Ok(machine) => Ok(Session { machine, lines }),
-            Err(stop) => Err(stop),
-        }
+        let machine = boot(alloc, image, devices, line)?;
+        Ok(Session { machine, lines })
     }
 
     // A line, and that it is behind the others then.
@@ -90,20 +88,17 @@ impl<D: Device> Session<D> {
         let Ok(()) = grow(&mut self.lines, 1) else {
             return Err(ScriptStop::NoMemory);
         };
-        match run_on(&mut self.machine, line, text, notes) {
-            Ok(()) => {
-                self.lines.push_reserved(plain);
-                Ok(())
-            }
-            Err(stop) => Err(stop),
-        }
+        run_on(&mut self.machine, line, text, notes)?;
+        self.lines.push_reserved(plain);
+        Ok(())
     }
 
-    /// Does one more line of a script, and leaves the text of its view in `text`. Its Steps and the calls of tasks are noted.
+    /// Does one more line of a script, without its newline, and replaces `text` by the text of its view. `notes` gets its Steps and the calls
+    /// of tasks.
     ///
     /// # Errors
     ///
-    /// Why the line is not done. The session is as before.
+    /// Why the line is not done. The session is unchanged.
     pub fn run(
         &mut self,
         alloc: Global,

@@ -18,15 +18,10 @@ pub(crate) fn start<D: Device>(
     ensures { Starts options.entry numbers.now result }
 {
     let RunOptions { image, devices } = options;
-    let mut machine = match Machine::from_boot(alloc, *numbers, devices) {
-        Ok(machine) => machine,
-        Err(refusal) => return Err(refusal),
-    };
+    let mut machine = Machine::from_boot(alloc, *numbers, devices)?;
     let Some(image) = image else {
         return Ok(machine);
     };
-    match machine.load(image) {
-        Ok(()) => Ok(machine),
-        Err(refusal) => Err(refusal),
-    }
+    machine.load(image)?;
+    Ok(machine)
 }

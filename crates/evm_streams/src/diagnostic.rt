@@ -37,20 +37,16 @@ fn write_diagnostic_line<E: Sink>(
 ) -> Result<(), WriteFault>
     ensures { WritesSome E.takes (λ words. words ++ codes "\n") result errors.old errors.new }
 {
-    match write_diagnostic(diagnostic, errors) {
-        Ok(()) => write_all(errors, b"\n"),
-        Err(fault) => Err(fault),
-    }
+    write_diagnostic(diagnostic, errors)?;
+    write_all(errors, b"\n")
 }
 
 // Writes a diagnostic behind its place.
 fn write_behind<E: Sink>(diagnostic: Diagnostic<'_>, errors: &mut E) -> Result<(), WriteFault>
     ensures { WritesSome E.takes (λ words. behind_place words) result errors.old errors.new }
 {
-    match write_all(errors, b": ") {
-        Ok(()) => write_diagnostic_line(diagnostic, errors),
-        Err(fault) => Err(fault),
-    }
+    write_all(errors, b": ")?;
+    write_diagnostic_line(diagnostic, errors)
 }
 
 // Writes a diagnostic about a file.
@@ -61,10 +57,8 @@ fn write_about<E: Sink>(
 ) -> Result<(), WriteFault>
     ensures { WritesSome E.takes (λ words. about name.now words) result errors.old errors.new }
 {
-    match write_all(errors, name.as_bytes()) {
-        Ok(()) => write_behind(diagnostic, errors),
-        Err(fault) => Err(fault),
-    }
+    write_all(errors, name.as_bytes())?;
+    write_behind(diagnostic, errors)
 }
 
 // Writes the number of a line, and a diagnostic behind it.
@@ -75,10 +69,8 @@ fn write_numbered<E: Sink>(
 ) -> Result<(), WriteFault>
     ensures { WritesSome E.takes (λ words. decimal line ++ behind_place words) result errors.old errors.new }
 {
-    match write_decimal(line, 19, errors) {
-        Ok(()) => write_behind(diagnostic, errors),
-        Err(fault) => Err(fault),
-    }
+    write_decimal(line, 19, errors)?;
+    write_behind(diagnostic, errors)
 }
 
 // Writes a diagnostic behind the number of a line.
@@ -89,10 +81,8 @@ fn write_line<E: Sink>(
 ) -> Result<(), WriteFault>
     ensures { WritesSome E.takes (λ words. codes ":" ++ (decimal line ++ behind_place words)) result errors.old errors.new }
 {
-    match write_all(errors, b":") {
-        Ok(()) => write_numbered(line, diagnostic, errors),
-        Err(fault) => Err(fault),
-    }
+    write_all(errors, b":")?;
+    write_numbered(line, diagnostic, errors)
 }
 
 // Writes a diagnostic about a line of a file.
@@ -104,10 +94,8 @@ fn write_about_line<E: Sink>(
 ) -> Result<(), WriteFault>
     ensures { WritesSome E.takes (λ words. about_line name.now line words) result errors.old errors.new }
 {
-    match write_all(errors, name.as_bytes()) {
-        Ok(()) => write_line(line, diagnostic, errors),
-        Err(fault) => Err(fault),
-    }
+    write_all(errors, name.as_bytes())?;
+    write_line(line, diagnostic, errors)
 }
 
 /// Writes `NAME: MESSAGE` to standard error. A write that fails is ignored.

@@ -42,30 +42,24 @@ fn write_escaped<E: Sink>(bytes: &[u8], errors: &mut E) -> Result<(), WriteFault
     let [first, rest @ ..] = bytes else {
         return Ok(());
     };
-    match write_byte(*first, errors) {
-        Ok(()) => write_escaped(rest, errors),
-        Err(fault) => Err(fault),
-    }
+    write_byte(*first, errors)?;
+    write_escaped(rest, errors)
 }
 
 // Writes a message and the words behind it.
 fn write_opened<E: Sink>(message: Message, between: &str, errors: &mut E) -> Result<(), WriteFault>
     ensures { WritesWords E.takes result errors.old errors.new }
 {
-    match write_message(message, errors) {
-        Ok(()) => write_words(between.as_bytes(), errors),
-        Err(fault) => Err(fault),
-    }
+    write_message(message, errors)?;
+    write_words(between.as_bytes(), errors)
 }
 
 // Writes a quoted word and its closing mark.
 fn write_quote<E: Sink>(word: &[u8], errors: &mut E) -> Result<(), WriteFault>
     ensures { WritesWords E.takes result errors.old errors.new }
 {
-    match write_escaped(excerpt(word), errors) {
-        Ok(()) => write_words(b"\"", errors),
-        Err(fault) => Err(fault),
-    }
+    write_escaped(excerpt(word), errors)?;
+    write_words(b"\"", errors)
 }
 
 /// Writes a message that quotes a word, after the text between them.
@@ -77,8 +71,6 @@ pub(crate) fn write_quoting<E: Sink>(
 ) -> Result<(), WriteFault>
     ensures { WritesWords E.takes result errors.old errors.new }
 {
-    match write_opened(message, between, errors) {
-        Ok(()) => write_quote(word, errors),
-        Err(fault) => Err(fault),
-    }
+    write_opened(message, between, errors)?;
+    write_quote(word, errors)
 }

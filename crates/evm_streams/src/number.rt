@@ -19,8 +19,6 @@ pub(crate) fn write_decimal<E: Sink>(
     if number < 10 {
         return write_all(errors, &[b'0' + number as u8]);
     }
-    match write_decimal(number / 10, behind - 1, errors) {
-        Ok(()) => write_all(errors, &[b'0' + (number % 10) as u8]),
-        Err(fault) => Err(fault),
-    }
+    write_decimal(number / 10, behind - 1, errors)?;
+    write_all(errors, &[b'0' + (number % 10) as u8])
 }

@@ -49,10 +49,7 @@ pub fn read_all<R: Source>(alloc: Global, source: &mut R) -> Result<Vec<u8>, Rea
 pub fn read_utf8<R: Source>(alloc: Global, source: &mut R) -> Result<String, ReadStop>
     ensures { MatchResult result (λ text. ReadsText R.gives source.old source.new (Result.Ok (string_bytes text))) (λ stop. ReadsText R.gives source.old source.new (Result.Err stop)) }
 {
-    let bytes = match read_all(alloc, source) {
-        Ok(bytes) => bytes,
-        Err(stop) => return Err(stop),
-    };
+    let bytes = read_all(alloc, source)?;
     match String::from_utf8(bytes) {
         Ok(text) => {
             // Nothing is done: the proof has from it that the bytes are UTF-8.

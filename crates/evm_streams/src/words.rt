@@ -33,10 +33,8 @@ fn write_hexadecimal<E: Sink>(number: u64, errors: &mut E) -> Result<(), WriteFa
     if number < 16 {
         return write_words(&[digit_character(number as u8)], errors);
     }
-    match write_hexadecimal(number / 16, errors) {
-        Ok(()) => write_words(&[digit_character((number % 16) as u8)], errors),
-        Err(fault) => Err(fault),
-    }
+    write_hexadecimal(number / 16, errors)?;
+    write_words(&[digit_character((number % 16) as u8)], errors)
 }
 
 // Writes a number.
@@ -53,10 +51,8 @@ fn write_number<E: Sink>(number: Numeral, errors: &mut E) -> Result<(), WriteFau
 fn write_counted<E: Sink>(front: &str, number: Numeral, errors: &mut E) -> Result<(), WriteFault>
     ensures { WritesWords E.takes result errors.old errors.new }
 {
-    match write_words(front.as_bytes(), errors) {
-        Ok(()) => write_number(number, errors),
-        Err(fault) => Err(fault),
-    }
+    write_words(front.as_bytes(), errors)?;
+    write_number(number, errors)
 }
 
 // Writes words with a number between them.
@@ -68,27 +64,8 @@ fn write_with_one<E: Sink>(
 ) -> Result<(), WriteFault>
     ensures { WritesWords E.takes result errors.old errors.new }
 {
-    match write_counted(front, number, errors) {
-        Ok(()) => write_words(back.as_bytes(), errors),
-        Err(fault) => Err(fault),
-    }
-}
-
-// Writes words with two numbers between them.
-fn write_with_two<E: Sink>(
-    front: &str,
-    first: Numeral,
-    between: &str,
-    second: Numeral,
-    back: &str,
-    errors: &mut E,
-) -> Result<(), WriteFault>
-    ensures { WritesWords E.takes result errors.old errors.new }
-{
-    match write_counted(front, first, errors) {
-        Ok(()) => write_with_one(between, second, back, errors),
-        Err(fault) => Err(fault),
-    }
+    write_counted(front, number, errors)?;
+    write_words(back.as_bytes(), errors)
 }
 
 /// Writes a message.
@@ -99,7 +76,8 @@ pub(crate) fn write_message<E: Sink>(message: Message, errors: &mut E) -> Result
         Message::Plain(words) => write_words(words.as_bytes(), errors),
         Message::WithOne(front, number, back) => write_with_one(front, number, back, errors),
         Message::WithTwo(front, first, between, second, back) => {
-            write_with_two(front, first, between, second, back, errors)
+            write_counted(front, first, errors)?;
+            write_with_one(between, second, back, errors)
         }
     }
 }

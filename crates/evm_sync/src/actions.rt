@@ -33,6 +33,13 @@ impl Actions {
         }
     }
 
+    /// Each line has the action that it has elsewhere.
+    pub fn copy_from(&mut self, other: &Actions)
+        ensures { self.new ≡ other.now }
+    {
+        self.actions = other.actions;
+    }
+
     /// The action of a line.
     pub fn get(&self, line: u8) -> Action
         ensures { result ≡ action_in self.now line }

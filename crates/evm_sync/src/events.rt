@@ -4,6 +4,7 @@ ghost use Rattle.evm_model.specs.Lists.{change};
 
 use arrayvec::ArrayVec;
 use evm_model::EVENT_LIMIT;
+use evm_room::copy_list;
 use std::marker::Model;
 
 /// The events, in the order of their numbers: each has the number of the mutex of the tasks that wait for it.
@@ -28,6 +29,13 @@ impl Events {
         Events {
             mutexes: ArrayVec::new(),
         }
+    }
+
+    /// The events are those of another list. Takes no memory.
+    pub fn copy_from(&mut self, other: &Events)
+        ensures { self.new ≡ other.now }
+    {
+        copy_list(&mut self.mutexes, &other.mutexes);
     }
 
     /// One event more, the last; no task has named a mutex for it.

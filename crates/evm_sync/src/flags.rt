@@ -3,6 +3,7 @@ ghost use Rattle.evm_model.specs.Lists.{change};
 
 use arrayvec::ArrayVec;
 use evm_model::FLAGS_LIMIT;
+use evm_room::copy_list;
 use std::marker::Model;
 
 /// The words of the flag groups, in the order of their numbers.
@@ -27,6 +28,13 @@ impl Flags {
         Flags {
             words: ArrayVec::new(),
         }
+    }
+
+    /// The flag groups are those of another list. Takes no memory.
+    pub fn copy_from(&mut self, other: &Flags)
+        ensures { self.new ≡ other.now }
+    {
+        copy_list(&mut self.words, &other.words);
     }
 
     /// One flag group more, the last; its word is 0.

@@ -3,6 +3,7 @@ ghost use Rattle.evm_model.specs.Lists.{change};
 
 use arrayvec::ArrayVec;
 use evm_model::{SEMAPHORE_COUNT_LIMIT, SEMAPHORE_LIMIT};
+use evm_room::copy_list;
 use std::marker::Model;
 
 /// The counts of the semaphores, in the order of their numbers.
@@ -27,6 +28,13 @@ impl Semaphores {
         Semaphores {
             counts: ArrayVec::new(),
         }
+    }
+
+    /// The semaphores are those of another list. Takes no memory.
+    pub fn copy_from(&mut self, other: &Semaphores)
+        ensures { self.new ≡ other.now }
+    {
+        copy_list(&mut self.counts, &other.counts);
     }
 
     /// One semaphore more, the last.

@@ -10,6 +10,7 @@ use arrayvec::ArrayVec;
 use evm_exec::{Hart, REGISTER_COUNT};
 use evm_isa::Register;
 use evm_model::TASK_LIMIT;
+use evm_room::copy_list;
 use std::marker::Model;
 
 /// What a task asks of a kernel at an ECALL.
@@ -48,6 +49,13 @@ impl Harts {
         let mut harts = ArrayVec::new();
         harts.push(hart);
         Harts { harts }
+    }
+
+    /// Each task has the registers and pc that another has. Takes no memory.
+    pub fn copy_from(&mut self, other: &Harts)
+        ensures { self.new ≡ other.now }
+    {
+        copy_list(&mut self.harts, &other.harts);
     }
 
     /// The registers and pc of a task.

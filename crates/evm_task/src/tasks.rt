@@ -16,6 +16,7 @@ ghost use Rattle.evm_task.specs.Early.{IsEarly, lowered};
 use crate::woken::{migrate, wake};
 use arrayvec::ArrayVec;
 use evm_model::{Class, Mode, SLICE, TASK_LIMIT, Task, TaskState, Wait};
+use evm_room::copy_list;
 use std::marker::Model;
 
 /// The tasks, in the order of their numbers.
@@ -68,6 +69,14 @@ impl Tasks {
         };
         tasks.push(task);
         tasks
+    }
+
+    /// The tasks are those of another list. Takes no memory.
+    pub fn copy_from(&mut self, other: &Tasks)
+        ensures { self.new ≡ other.now }
+    {
+        copy_list(&mut self.tasks, &other.tasks);
+        self.earliest = other.earliest;
     }
 
     /// How many there are, 64 at the most.

@@ -5,6 +5,7 @@ ghost use Rattle.evm_tick.specs.Spans.{IsQuiet, IsSpan, due_at, AreFrom, bound_w
 
 use arrayvec::ArrayVec;
 use evm_model::{TIMER_LIMIT, TIMER_SPAN_LIMIT, Timer};
+use evm_room::copy_list;
 use std::marker::Model;
 
 /// The timers, in the order of their numbers.
@@ -57,6 +58,14 @@ impl Timers {
             timers: ArrayVec::new(),
             earliest: u64::MAX,
         }
+    }
+
+    /// The timers are those of another list. Takes no memory.
+    pub fn copy_from(&mut self, other: &Timers)
+        ensures { self.new ≡ other.now }
+    {
+        copy_list(&mut self.timers, &other.timers);
+        self.earliest = other.earliest;
     }
 
     /// One timer more, the last; it is off.

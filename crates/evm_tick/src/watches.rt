@@ -4,6 +4,7 @@ ghost use Rattle.evm_model.specs.Watch.{or_zero};
 
 use arrayvec::ArrayVec;
 use evm_model::PROCESSOR_LIMIT;
+use evm_room::copy_list;
 use std::marker::Model;
 
 /// For how many ticks in a row the watchdog has found the out-of-band task of each processor current.
@@ -40,6 +41,14 @@ impl Watches {
             ticks,
             counted: false,
         }
+    }
+
+    /// As many ticks are counted on each processor as elsewhere. Takes no memory.
+    pub fn copy_from(&mut self, other: &Watches)
+        ensures { self.new ≡ other.now }
+    {
+        copy_list(&mut self.ticks, &other.ticks);
+        self.counted = other.counted;
     }
 
     /// The ticks of a processor; 0 where there is no such processor.

@@ -12,7 +12,7 @@ use crate::waiter::{Waiter, turn_of, wait_queue, waits_for};
 use arrayvec::ArrayVec;
 use evm_model::{TASK_LIMIT, Wait};
 use evm_ready::{Turns, is_before, listed_rank};
-use evm_room::Refused;
+use evm_room::{Refused, copy_list};
 use std::alloc::Global;
 use std::marker::Model;
 
@@ -75,6 +75,15 @@ impl Waiting {
         self.waiters.push(waiter);
         self.ranks.push(rank);
         self.turns.push(turn_of(waiter, rank));
+    }
+
+    /// The tasks wait for what others wait for. Takes no memory.
+    pub fn copy_from(&mut self, other: &Waiting)
+        ensures { self.new ≡ other.now }
+    {
+        copy_list(&mut self.waiters, &other.waiters);
+        copy_list(&mut self.ranks, &other.ranks);
+        self.turns.copy_from(&other.turns);
     }
 
     /// Task t waits for this, or doesn't wait.

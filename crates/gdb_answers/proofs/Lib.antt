@@ -1,3 +1,4 @@
 pub mod Asking
 pub mod Extending
 pub mod Kept
+pub mod Responding

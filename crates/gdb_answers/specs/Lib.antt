@@ -1,5 +1,6 @@
 pub mod Answers
 pub mod Asking
+pub mod Responding
 pub mod Setting
 pub mod Starting
 pub mod Written

@@ -201,6 +201,7 @@ fn answer_order<I: Interrupts>(
     ensures kept { KeepsTape session.old.tape session.new.tape }
     ensures said { (text : List ℕ) → answer_text session.old.looked session.old.halt session.old.tape.machine command ≡ Option.Some text → OnOk result (reply.new.payload.items ≡ reply.old.payload.items ++ text) }
     ensures unchanged { (text : List ℕ) → answer_text session.old.looked session.old.halt session.old.tape.machine command ≡ Option.Some text → session.new ≡ session.old }
+    ensures untold { (text : List ℕ) → answer_text session.old.looked session.old.halt session.old.tape.machine command ≡ Option.Some text → reply.new.told ≡ reply.old.told }
 {
     match command {
         Command::Resume(pace) => {
@@ -277,6 +278,7 @@ pub(crate) fn answer<I: Interrupts>(
     ensures silent { OnSome (points_asked session.old.tape.machine session.old.points command) (reply.new.told ≡ reply.old.told) }
     ensures said { (text : List ℕ) → answer_text session.old.looked session.old.halt session.old.tape.machine command ≡ Option.Some text → OnOk result (reply.new.payload.items ≡ reply.old.payload.items ++ text) }
     ensures unchanged { (text : List ℕ) → answer_text session.old.looked session.old.halt session.old.tape.machine command ≡ Option.Some text → session.new ≡ session.old }
+    ensures untold { (text : List ℕ) → answer_text session.old.looked session.old.halt session.old.tape.machine command ≡ Option.Some text → reply.new.told ≡ reply.old.told }
 {
     match command {
         Command::WriteBytes(_, _) => answer_data(server.alloc, session, command, behind, reply),

@@ -1,9 +1,9 @@
 //! The packets that are written for what GDB sent.
 
-ghost use Rattle.std.specs.Prelude.{◌≡◌, ◌<◌, ◌++◌, [], length, OnOk};
+ghost use Rattle.std.specs.Prelude.{◌≡◌, ◌<◌, ◌++◌, [], false, length, OnOk};
 ghost use Rattle.std.specs.String.{string_bytes};
 ghost use Rattle.gdb_packets.specs.Framing.{framed};
-ghost use Rattle.gdb_answers.specs.Written.{Extends, acknowledgement};
+ghost use Rattle.gdb_answers.specs.Written.{EndsWith, Extends, acknowledgement};
 
 use evm_room::{NoMemory, Refused};
 use gdb_packets::{PacketItem, push_digits, push_framed};
@@ -86,6 +86,7 @@ fn cut_text(text: &[u8]) -> (&[u8], &[u8])
 fn push_answer(answer: &[u8], silent: bool, out: &mut Vec<u8>) -> Result<(), Refused>
     ensures extends { OnOk result (Extends out.old.items out.new.items) }
     ensures some { 0 < length answer.now → OnOk result (out.new.items ≡ out.old.items ++ framed answer.now) }
+    ensures loud { silent ≡ false → OnOk result (out.new.items ≡ out.old.items ++ framed answer.now) }
 {
     if silent && answer.is_empty() {
         return Ok(());
@@ -94,10 +95,12 @@ fn push_answer(answer: &[u8], silent: bool, out: &mut Vec<u8>) -> Result<(), Ref
 }
 
 /// Appends the packets of an answer: those that show a text, and the answer itself.
-#[tactic(auto, using(crate::proofs::Extending::extends_more))]
+#[tactic(auto, using(crate::proofs::Extending::extends_more, crate::proofs::Extending::ends_with))]
 pub(crate) fn push_packets(response: &mut Response, silent: bool) -> Result<(), NoMemory>
     ensures extends { OnOk result (Extends response.old.out.items response.new.out.items) }
     ensures alone { length (string_bytes response.old.reply.told) ≡ 0 → 0 < length response.old.reply.payload.items → OnOk result (response.new.out.items ≡ response.old.out.items ++ framed response.old.reply.payload.items) }
+    ensures loud { silent ≡ false → OnOk result (EndsWith response.old.reply.payload.items response.old.out.items response.new.out.items) }
+    ensures plain { length (string_bytes response.old.reply.told) ≡ 0 → silent ≡ false → OnOk result (response.new.out.items ≡ response.old.out.items ++ framed response.old.reply.payload.items) }
 {
     match push_shown(
         response.reply.told.as_bytes(),

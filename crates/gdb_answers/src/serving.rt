@@ -1,10 +1,13 @@
 //! The server: bytes in, packets out.
 
-ghost use Rattle.std.specs.Prelude.{◌≡◌, ◌≢◌, ◌++◌, [], IfSome, OnOk, Option};
+ghost use Rattle.std.specs.Prelude.{◌≡◌, ◌≢◌, ◌++◌, ℕ, List, [], true, IfErr, IfOk, IfSome, OnOk, Option};
 ghost use Rattle.gdb_packets.specs.Framing.{framed};
 ghost use Rattle.gdb_packets.specs.Commands.{command_at};
+ghost use Rattle.gdb_answers.specs.Answers.{answer_text};
+ghost use Rattle.gdb_answers.specs.Responding.{IsAnswer, IsResponse, LosesItem, MakesWay, ServesItem, is_written_for, item_sets};
+ghost use Rattle.gdb_answers.specs.Starting.{has_reply};
 ghost use Rattle.gdb_answers.specs.Asking.{ArePointsSet, IsCarriedOut, asked, payload_asked, payload_points, points_asked, reply};
-ghost use Rattle.gdb_answers.specs.Written.{Extends, acknowledgement};
+ghost use Rattle.gdb_answers.specs.Written.{Extends, HasPacket, acknowledgement};
 ghost use Rattle.gdb_tape.specs.Tape.{KeepsTape};
 
 use crate::answering::answer;
@@ -62,6 +65,7 @@ fn new_exchange(alloc: Global) -> Exchange {
 }
 
 // Does a command, and appends the packets of its answer.
+#[tactic(auto, using(crate::proofs::Extending::replies_by))]
 fn answer_command<I: Interrupts>(
     server: &Server<'_, I>,
     session: &mut GdbSession,
@@ -73,6 +77,9 @@ fn answer_command<I: Interrupts>(
     ensures done { OnOk result (IfSome (asked session.old.looked behind.now session.old.tape.machine command) (λ events. IsCarriedOut reply events session.old.tape.machine session.new.tape.machine response.old.out.items response.new.out.items)) }
     ensures kept { KeepsTape session.old.tape session.new.tape }
     ensures extends { OnOk result (Extends response.old.out.items response.new.out.items) }
+    ensures replies { has_reply session.old.extended command ≡ true → OnOk result (HasPacket response.old.out.items response.new.out.items) }
+    ensures said { (text : List ℕ) → answer_text session.old.looked session.old.halt session.old.tape.machine command ≡ Option.Some text → OnOk result (response.new.out.items ≡ response.old.out.items ++ framed text) }
+    ensures unchanged { (text : List ℕ) → answer_text session.old.looked session.old.halt session.old.tape.machine command ≡ Option.Some text → session.new ≡ session.old }
 {
     response.reply.told.clear();
     response.reply.payload.clear();
@@ -95,6 +102,7 @@ fn answer_payload<I: Interrupts>(
     ensures extends { OnOk result (Extends response.old.out.items response.new.out.items) }
     ensures unknown { command_at payload.now ≡ Option.None → session.new ≡ session.old }
     ensures empty { command_at payload.now ≡ Option.None → OnOk result (response.new.out.items ≡ response.old.out.items ++ framed []) }
+    ensures answer { OnOk result (IsAnswer session.old session.new payload.now response.old.out.items response.new.out.items) }
 {
     match read_command(payload) {
         Some((command, behind)) => answer_command(server, session, command, behind, response),
@@ -119,6 +127,7 @@ fn hear<I: Interrupts>(
     ensures sign { item ≢ PacketItem.Packet → OnOk result (response.new.out.items ≡ acknowledgement session.old.acknowledges item) }
     ensures unknown { item ≡ PacketItem.Packet → command_at payload.now ≡ Option.None → session.new ≡ session.old }
     ensures empty { item ≡ PacketItem.Packet → command_at payload.now ≡ Option.None → OnOk result (response.new.out.items ≡ acknowledgement session.old.acknowledges item ++ framed []) }
+    ensures answer { item ≡ PacketItem.Packet → OnOk result (IsAnswer session.old session.new payload.now (acknowledgement session.old.acknowledges item) response.new.out.items) }
 {
     response.out.clear();
     push_sign(session.acknowledges, item, &mut response.out)?;
@@ -129,7 +138,9 @@ fn hear<I: Interrupts>(
 }
 
 // Whether something is written for an item. For - it is what was written last.
-fn is_answered(item: PacketItem) -> bool {
+fn is_answered(item: PacketItem) -> bool
+    ensures { result ≡ is_written_for item }
+{
     matches!(
         item,
         PacketItem::Packet | PacketItem::Damaged | PacketItem::NotAcknowledged
@@ -148,6 +159,7 @@ fn prepare<I: Interrupts>(
     ensures points { item ≡ PacketItem.Packet → OnOk result (IfSome (payload_points payload.now session.old.tape.machine session.old.points) (λ outcome. ArePointsSet reply outcome session.old.points session.new.points (acknowledgement session.old.acknowledges item) response.new.out.items)) }
     ensures done { item ≡ PacketItem.Packet → OnOk result (IfSome (payload_asked session.old.looked payload.now session.old.tape.machine) (λ events. IsCarriedOut reply events session.old.tape.machine session.new.tape.machine (acknowledgement session.old.acknowledges item) response.new.out.items)) }
     ensures kept { KeepsTape session.old.tape session.new.tape }
+    ensures response { OnOk result (IsResponse item payload.now session.old session.new response.old.out.items response.new.out.items) }
 {
     match item {
         PacketItem::Packet | PacketItem::Damaged => {
@@ -158,7 +170,9 @@ fn prepare<I: Interrupts>(
 }
 
 // Whether an item asks for other registers.
-fn writes_registers(item: PacketItem, payload: &[u8]) -> bool {
+fn writes_registers(item: PacketItem, payload: &[u8]) -> bool
+    ensures { result ≡ item_sets item payload.now }
+{
     if item != PacketItem::Packet {
         return false;
     }
@@ -172,6 +186,7 @@ fn writes_registers(item: PacketItem, payload: &[u8]) -> bool {
 #[tactic(auto, using(gdb_tape::proofs::Keeping::keeps_same, gdb_tape::proofs::Keeping::keeps_changed))]
 fn make_way(session: &mut GdbSession, item: PacketItem, payload: &[u8])
     ensures kept { KeepsTape session.old.tape session.new.tape }
+    ensures way { MakesWay (item_sets item payload.now) session.old session.new }
 {
     let can = processor_of(&session.tape.machine, session.looked).is_ok();
     if can && writes_registers(item, payload) && has_going(&session.tape.machine) {
@@ -190,6 +205,8 @@ fn serve_item<W: Sink, I: Interrupts>(
     sink: &mut W,
 ) -> Result<(), Ended>
     ensures kept { KeepsTape session.old.tape session.new.tape }
+    ensures ok { IfOk result (λ _. ServesItem W.takes item exchange.old.payload.items session.old session.new exchange.old.response.out.items exchange.new.response.out.items sink.old sink.new) }
+    ensures err { IfErr result (λ end. LosesItem W.takes item exchange.old.payload.items session.old session.new exchange.old.response.out.items sink.old sink.new end) }
 {
     let payload = exchange.payload.as_slice();
     make_way(session, item, payload);

@@ -186,6 +186,7 @@ impl GdbSession {
         ensures last { self.new.tape.last ≡ Option.None }
         ensures kept { KeepsTape self.old.tape self.new.tape }
         ensures points { self.new.points ≡ self.old.points }
+        ensures others { (self.new.acknowledges ≡ self.old.acknowledges) × (self.new.looked ≡ self.old.looked) × (self.new.extended ≡ self.old.extended) }
     {
         if self.tape.is_back() {
             self.dropped = true;

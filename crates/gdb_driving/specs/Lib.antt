@@ -1,3 +1,4 @@
+pub mod Driving
 pub mod Interrupts
 pub mod Kept
 pub mod Points

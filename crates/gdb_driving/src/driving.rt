@@ -1,8 +1,9 @@
 //! Events, each of which is an accepted event of the machine.
 
-ghost use Rattle.std.specs.Prelude.{◌≡◌, IfOk, IfErr, OnErr, Result};
+ghost use Rattle.std.specs.Prelude.{◌≡◌, false, true, IfOk, IfErr, OnErr, OnOk, Result};
 ghost use Rattle.evm_model.specs.Event.{event_lent};
 ghost use Rattle.evm_model.specs.Replay.{apply};
+ghost use Rattle.gdb_driving.specs.Driving.{AllAre, GoesBy, IsStopped};
 ghost use Rattle.gdb_driving.specs.Kept.{KeepsJournal};
 
 use evm_debug::{Answer, Event, Machine, Refusal};
@@ -23,6 +24,7 @@ pub fn event<D: Device>(machine: &mut Machine<D>, event: Event<&Block>) -> Resul
 #[tactic(auto, using(crate::proofs::Kept::keeps_same))]
 fn stop<D: Device>(machine: &mut Machine<D>, cpu: u8) -> Result<(), Refusal>
     ensures kept { KeepsJournal machine.old machine.new }
+    ensures stops { OnOk result (IsStopped cpu machine.old machine.new) }
 {
     match machine.cpu(cpu) {
         Some(processor) if processor.stopped => Ok(()),
@@ -41,6 +43,7 @@ fn stop<D: Device>(machine: &mut Machine<D>, cpu: u8) -> Result<(), Refusal>
 #[tactic(auto, using(crate::proofs::Kept::keeps_same, crate::proofs::Kept::keeps_more))]
 pub fn stop_all<D: Device>(machine: &mut Machine<D>) -> Result<(), Refusal>
     ensures kept { KeepsJournal machine.old machine.new }
+    ensures stopped { OnOk result (AllAre true machine.new) }
 {
     for c in 0..machine.cpu_count() {
         stop(machine, c)?;
@@ -52,6 +55,7 @@ pub fn stop_all<D: Device>(machine: &mut Machine<D>) -> Result<(), Refusal>
 #[tactic(auto, using(crate::proofs::Kept::keeps_same))]
 fn go<D: Device>(machine: &mut Machine<D>, cpu: u8) -> Result<(), Refusal>
     ensures kept { KeepsJournal machine.old machine.new }
+    ensures goes { OnOk result (GoesBy cpu machine.old machine.new) }
 {
     match machine.cpu(cpu) {
         Some(processor) if processor.stopped => match event(machine, Event::Go(cpu)) {
@@ -70,6 +74,7 @@ fn go<D: Device>(machine: &mut Machine<D>, cpu: u8) -> Result<(), Refusal>
 #[tactic(auto, using(crate::proofs::Kept::keeps_same, crate::proofs::Kept::keeps_more))]
 pub fn go_all<D: Device>(machine: &mut Machine<D>) -> Result<(), Refusal>
     ensures kept { KeepsJournal machine.old machine.new }
+    ensures going { OnOk result (AllAre false machine.new) }
 {
     for c in 0..machine.cpu_count() {
         go(machine, c)?;

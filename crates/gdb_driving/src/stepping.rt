@@ -1,5 +1,7 @@
 //! A program that goes on by one instruction.
 
+ghost use Rattle.std.specs.Prelude.{OnOk};
+ghost use Rattle.gdb_driving.specs.Driving.{EndsWithStep};
 ghost use Rattle.gdb_driving.specs.Kept.{KeepsJournal};
 
 use crate::driving::{event, stop_all};
@@ -47,9 +49,10 @@ pub fn step<D: Device>(
     looked: u8,
 ) -> Result<TargetHalt, Refusal>
     ensures kept { KeepsJournal machine.old machine.new }
+    ensures stepped { OnOk result (EndsWithStep cpu machine.new) }
 {
     stop_all(machine)?;
-    'lines: for _ in 0..LINES_BEFORE {
+    'lines: for _line in 0..LINES_BEFORE {
         let next = next_of(machine, cpu);
         let watched = watched_by(machine, points, next);
         event(machine, Event::StepI(cpu))?;

@@ -79,10 +79,8 @@ fn push_escaped(out: &mut Vec<u8>, payload: &[u8]) -> Result<u8, Refused>
 {
     let mut sum = 0u8;
     for byte in payload {
-        match push_escaped_byte(out, *byte) {
-            Ok(more) => sum = sum.wrapping_add(more),
-            Err(refused) => return Err(refused),
-        }
+        let more = push_escaped_byte(out, *byte)?;
+        sum = sum.wrapping_add(more);
     }
     Ok(sum)
 }

@@ -63,10 +63,8 @@ pub fn read_digits(digits: &[u8], bytes: &mut Vec<u8>) -> Result<bool, Refused>
         if 16 <= low {
             return Ok(false);
         }
-        match push_byte(bytes, high * 16 + low) {
-            Ok(()) => rest = after,
-            Err(refused) => return Err(refused),
-        }
+        push_byte(bytes, high * 16 + low)?;
+        rest = after;
     }
     Ok(rest.is_empty())
 }

@@ -9,9 +9,10 @@ use crate::words::{Options, Search, WordFault, options_of};
 use clap::ArgMatches;
 use evm_host::{FAILED, Message, System, USAGE, World, image_at, memory_refused, names_at, report};
 use hunt_search::{
-    BeginFault, Boot, HuntStop, Plan, Report, Switching, Target, Way, first_choices, first_length,
-    hunt, hunt_all,
+    BeginFault, Boot, HuntStop, Plan, Report, SearchSpan, SpaceCounts, Switching, Target, Way,
+    first_choices, first_length, hunt, hunt_all,
 };
+use hunt_space::{SpaceBounds, TickBound, hunt_space};
 use std::alloc::Global;
 use text_symbols::{Names, Symbols};
 
@@ -30,6 +31,10 @@ fn blame<S: System>(fault: WordFault, world: &mut World<S>) -> u8 {
         WordFault::Missing => return USAGE,
         WordFault::Time => "--time: wanted a number of seconds, or as 90s, 5m or 2h",
         WordFault::Seeds => "--seeds: wanted the first seed and then the last",
+        WordFault::Counted => {
+            "--all without B looks at states alone: without lost, stuck, --held, --inversion and --order"
+        }
+        WordFault::Bounds => "--ticks and --states: wanted beside --all without B",
     };
     report(PROGRAM, Message::Plain(words), &mut world.errors);
     USAGE
@@ -79,7 +84,7 @@ fn boot_of(options: &Options<'_>, names: &Names) -> Boot {
 // How a hunt by seeds chooses.
 fn way_of(job: &HuntJob<'_>) -> Result<Way, HuntStop> {
     match job.options.search {
-        Search::Random | Search::All(_) => Ok(Way::Random),
+        Search::Random | Search::Switches(_) | Search::All => Ok(Way::Random),
         Search::Pct(points) => Ok(Way::Priorities {
             points,
             length: first_length(&job.target)?,
@@ -90,24 +95,73 @@ fn way_of(job: &HuntJob<'_>) -> Result<Way, HuntStop> {
     }
 }
 
-// Looks at the schedules of the options.
-fn hunt_by<S: System>(job: &HuntJob<'_>, telling: &mut Telling<'_, S>) -> Result<Report, HuntStop> {
+// Looks at every schedule.
+fn hunt_everything<S: System>(
+    job: &HuntJob<'_>,
+    telling: &mut Telling<'_, S>,
+) -> Result<(Report, SearchSpan), HuntStop> {
     let options = job.options;
-    if let Search::All(switches) = options.search {
-        let bounds = Switching {
-            switches,
-            schedules: options.most,
-            orders: options.orders,
-        };
-        return hunt_all(&job.target, &bounds, telling);
-    }
+    let clock = match options.ticks {
+        Some(most) => TickBound::AtMost(most),
+        None => TickBound::Free,
+    };
+    let bounds = SpaceBounds {
+        clock,
+        states: options.states,
+    };
+    let found = hunt_space(&job.target, &bounds, telling)?;
+    let counts = SpaceCounts {
+        ticks: options.ticks,
+        states: found.states,
+        events: found.events,
+        ends: found.ends,
+        clock: found.clock,
+    };
+    Ok((found.report, SearchSpan::All(counts)))
+}
+
+// Looks at every schedule with at most a number of switches.
+fn hunt_switches<S: System>(
+    job: &HuntJob<'_>,
+    switches: u8,
+    telling: &mut Telling<'_, S>,
+) -> Result<(Report, SearchSpan), HuntStop> {
+    let options = job.options;
+    let bounds = Switching {
+        switches,
+        schedules: options.most,
+        orders: options.orders,
+    };
+    let report = hunt_all(&job.target, &bounds, telling)?;
+    Ok((report, SearchSpan::Switches(switches)))
+}
+
+// Looks at the schedules of seeds.
+fn hunt_seeds<S: System>(
+    job: &HuntJob<'_>,
+    telling: &mut Telling<'_, S>,
+) -> Result<(Report, SearchSpan), HuntStop> {
+    let options = job.options;
     let plan = Plan {
         way: way_of(job)?,
         first: options.first,
         last: options.last,
         orders: options.orders,
     };
-    hunt(&job.target, &plan, telling)
+    let report = hunt(&job.target, &plan, telling)?;
+    Ok((report, SearchSpan::Seeds(options.first)))
+}
+
+// Looks at the schedules of the options.
+fn hunt_by<S: System>(
+    job: &HuntJob<'_>,
+    telling: &mut Telling<'_, S>,
+) -> Result<(Report, SearchSpan), HuntStop> {
+    match job.options.search {
+        Search::All => hunt_everything(job, telling),
+        Search::Switches(switches) => hunt_switches(job, switches, telling),
+        Search::Mixed | Search::Random | Search::Pct(_) => hunt_seeds(job, telling),
+    }
 }
 
 // Hunts in an image, and shows each failure when it is found.
@@ -117,7 +171,7 @@ fn hunt_in<'a, S: System>(
     rt: &'a HostRuntime,
     clock: HuntClock,
     world: &'a mut World<S>,
-) -> Result<(Report, u8), HuntStop> {
+) -> Result<(Report, SearchSpan, u8), HuntStop> {
     let mut telling = Telling {
         alloc: job.target.alloc,
         names,
@@ -129,9 +183,9 @@ fn hunt_in<'a, S: System>(
     };
     let hunted = hunt_by(job, &mut telling);
     telling.clock.clear(telling.rt);
-    let report = hunted?;
+    let (report, span) = hunted?;
     let status = telling.told?;
-    Ok((report, status))
+    Ok((report, span, status))
 }
 
 // Hunts in an image, and shows what it comes to.
@@ -142,11 +196,11 @@ fn hunt_and_tell<S: System>(
     clock: HuntClock,
     world: &mut World<S>,
 ) -> Result<u8, HuntStop> {
-    let (report, status) = hunt_in(job, names, rt, clock, world)?;
+    let (report, span, status) = hunt_in(job, names, rt, clock, world)?;
     if status != 0 {
         return Ok(status);
     }
-    tell(job, &report, world)
+    tell(job, &report, span, world)
 }
 
 // Hunts by the options.

@@ -4,13 +4,13 @@ use crate::PROGRAM;
 use crate::cases::Cases;
 use crate::files::write_files;
 use crate::job::HuntJob;
-use crate::words::{Options, Search};
-use evm_host::{Message, System, World, report as report_message, show};
+use evm_host::{Message, System, USAGE, World, report as report_message, show};
 use evm_lines::{LINES, LineSet};
 use evm_room::NoMemory;
 use evm_streams::Numeral;
 use hunt_search::{
-    Found, HuntStop, Report, Row, SearchSpan, counts_text, row_text, schedule_text, shortest,
+    Found, HuntStop, Report, Row, SearchSpan, clock_text, counts_text, row_text, schedule_text,
+    shortest,
 };
 
 /// The status of a hunt that has found a failure.
@@ -116,12 +116,17 @@ fn tell_asked<S: System>(asked: LineSet, world: &mut World<S>) {
     }
 }
 
-// Which schedules the words ask for.
-fn span_of(options: &Options<'_>) -> SearchSpan {
-    match options.search {
-        Search::All(switches) => SearchSpan::Switches(switches),
-        Search::Mixed | Search::Random | Search::Pct(_) => SearchSpan::Seeds(options.first),
-    }
+// Shows where a call reads the clock, which ended the search; the status.
+fn tell_clock<S: System>(
+    job: &HuntJob<'_>,
+    address: u64,
+    world: &mut World<S>,
+) -> Result<u8, NoMemory> {
+    let text = clock_text(job.target.alloc, address, job.names)?;
+    let status = show(PROGRAM, text.as_str(), world);
+    let message = Message::Plain("a call reads the clock or names a time: see --ticks");
+    report_message(PROGRAM, message, &mut world.errors);
+    Ok(first_failed(status, USAGE))
 }
 
 /// Shows what a hunt came to, and returns the status.
@@ -132,6 +137,7 @@ fn span_of(options: &Options<'_>) -> SearchSpan {
 pub(crate) fn tell<S: System>(
     job: &HuntJob<'_>,
     report: &Report,
+    span: SearchSpan,
     world: &mut World<S>,
 ) -> Result<u8, HuntStop> {
     let mut results = Results::new(*job);
@@ -143,10 +149,14 @@ pub(crate) fn tell<S: System>(
     if job.options.wanted.lines.is_empty() {
         tell_asked(report.asked, world);
     }
-    let text = counts_text(job.target.alloc, report, span_of(job.options))?;
-    status = first_failed(status, show(PROGRAM, text.as_str(), world));
-    if status == 0 && !report.rows.is_empty() {
-        status = FOUND;
+    let mut found = if report.rows.is_empty() { 0 } else { FOUND };
+    if let SearchSpan::All(counts) = span
+        && let Some(address) = counts.clock
+    {
+        found = first_failed(found, tell_clock(job, address, world)?);
     }
+    let text = counts_text(job.target.alloc, report, span)?;
+    status = first_failed(status, show(PROGRAM, text.as_str(), world));
+    status = first_failed(status, found);
     Ok(status)
 }

@@ -14,7 +14,9 @@ pub enum Search {
     /// By priorities with this number of change points.
     Pct(u8),
     /// Every schedule with at most this number of switches.
-    All(u8),
+    Switches(u8),
+    /// Every schedule.
+    All,
 }
 
 /// What is to be hunted.
@@ -40,6 +42,10 @@ pub struct Options<'a> {
     pub last: u64,
     /// The most schedules, where they are not chosen by seeds.
     pub most: u64,
+    /// The most ticks of a schedule, where every schedule is looked at.
+    pub ticks: Option<u64>,
+    /// The most states that are visited then.
+    pub states: u32,
     /// After how many seconds no schedule is begun.
     pub seconds: Option<u64>,
     /// Whether the orders of locks are looked at.
@@ -59,12 +65,19 @@ pub(crate) enum WordFault {
     Time,
     /// The last of `--seeds` is below the first.
     Seeds,
+    /// A failure that is counted over a run is looked for in every schedule.
+    Counted,
+    /// `--ticks` or `--states` stands without `--all`, or beside a number of switches.
+    Bounds,
     /// A word is missing.
     Missing,
 }
 
 /// For how many seconds a hunt goes on without a bound.
 const USUAL_SECONDS: u64 = 5;
+
+/// How many states are visited, if that isn't named.
+const USUAL_STATES: u32 = 1_000_000;
 
 /// For how many rounds a task may not run, if they aren't named.
 const USUAL_ROUNDS: u32 = 1_000;
@@ -172,8 +185,11 @@ fn wanted_of(matches: &ArgMatches<'_>) -> Wanted {
 }
 
 fn search_of(matches: &ArgMatches<'_>) -> Search {
-    if let Some(switches) = matches.get_one::<u8>("all") {
-        return Search::All(switches);
+    if matches.contains_id("all") {
+        return match matches.get_one::<u8>("all") {
+            Some(switches) => Search::Switches(switches),
+            None => Search::All,
+        };
     }
     if let Some(points) = matches.get_one::<u8>("pct") {
         return Search::Pct(points);
@@ -223,11 +239,34 @@ fn seconds_of(matches: &ArgMatches<'_>) -> Result<Option<u64>, WordFault> {
     }
     let is_bounded = matches.get_strs("seeds").is_some()
         || matches.get_one::<u64>("runs").is_some();
-    if is_bounded || matches.get_one::<u8>("all").is_some() {
+    if is_bounded || matches.contains_id("all") {
         Ok(None)
     } else {
         Ok(Some(USUAL_SECONDS))
     }
+}
+
+// Whether a failure is looked for that one state doesn't show.
+fn counts_over_runs(matches: &ArgMatches<'_>, wanted: &Wanted) -> bool {
+    wanted.lost || !wanted.looks_at_states() || matches.get_flag("order")
+}
+
+// Why these words don't go with the way in which schedules are chosen.
+fn fault_of(matches: &ArgMatches<'_>, search: Search, wanted: &Wanted) -> Option<WordFault> {
+    if let Search::All = search {
+        if counts_over_runs(matches, wanted) {
+            return Some(WordFault::Counted);
+        }
+        return None;
+    }
+    let names = ["ticks", "states"];
+    if names
+        .iter()
+        .any(|name| matches.get_one::<u64>(name).is_some())
+    {
+        return Some(WordFault::Bounds);
+    }
+    None
 }
 
 /// What the words behind `hunt` ask for.
@@ -240,17 +279,24 @@ pub(crate) fn options_of<'a>(matches: &ArgMatches<'a>) -> Result<Options<'a>, Wo
     if last < first {
         return Err(WordFault::Seeds);
     }
+    let search = search_of(matches);
+    let wanted = wanted_of(matches);
+    if let Some(fault) = fault_of(matches, search, &wanted) {
+        return Err(fault);
+    }
     Ok(Options {
         image,
         cpus: number_of(matches, "cpus", 2),
         ram: matches.get_one("ram"),
         watchdog: number_of(matches, "watchdog", 0),
         events: number_of(matches, "events", 10_000),
-        wanted: wanted_of(matches),
-        search: search_of(matches),
+        wanted,
+        search,
         first,
         last,
         most: number_of(matches, "runs", 1_000_000),
+        ticks: matches.get_one("ticks"),
+        states: matches.get_one("states").unwrap_or(USUAL_STATES),
         seconds,
         orders: matches.get_flag("order"),
         map: matches.get_str("map"),

@@ -1,6 +1,6 @@
 //! The machine with which each run begins.
 
-ghost use Rattle.std.specs.Prelude.{◌≡◌, IfOk};
+ghost use Rattle.std.specs.Prelude.{◌≡◌, IfOk, OnOk};
 ghost use Rattle.evm_model.specs.Replay.{IsReplayOf};
 ghost use Rattle.hunt_schedules.specs.Beginning.{Begins};
 
@@ -46,6 +46,23 @@ pub fn begin(alloc: Global, image: &Image, boot: &Boot) -> Result<Machine<AnyDev
     };
     match machine.load(image) {
         Ok(()) => Ok(machine),
+        Err(refusal) => Err(fault_of(refusal)),
+    }
+}
+
+/// Takes a machine back to the state of another one that began with the same numbers.
+///
+/// # Errors
+///
+/// `BadSize` if the other began with other numbers, `NoMemory` if memory was refused. The machine is as it was then.
+pub fn go_back(
+    machine: &mut Machine<AnyDevice>,
+    state: &Machine<AnyDevice>,
+) -> Result<(), BeginFault>
+    ensures { OnOk result (machine.new ≡ state.now) }
+{
+    match machine.copy_from(state) {
+        Ok(()) => Ok(()),
         Err(refusal) => Err(fault_of(refusal)),
     }
 }

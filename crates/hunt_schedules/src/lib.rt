@@ -13,7 +13,7 @@ mod running;
 mod schedule;
 mod stop;
 
-pub use beginning::{BeginFault, begin};
+pub use beginning::{BeginFault, begin, go_back};
 pub use branch::{Branch, Choice, CpuTurn, SWITCH_LIMIT};
 pub use chooser::{Chooser, POINT_LIMIT, Way};
 pub use evm_core::{Boot, Machine};

@@ -1,7 +1,8 @@
 //! The schedules of many seeds.
 
 ghost use Rattle.std.specs.Prelude.{◌≡◌, [], ◌∷◌, ◌++◌, true, false, IfOk, OnOk, Option};
-ghost use Rattle.hunt_schedules.specs.Beginning.{ComesFrom};
+ghost use Rattle.evm_model.specs.Replay.{IsReplayOf};
+ghost use Rattle.hunt_schedules.specs.Beginning.{Begins, ComesFrom};
 ghost use Rattle.hunt_schedules.specs.Runs.{Ends, IsFound};
 ghost use Rattle.hunt_search.specs.Hunts.{AreFound};
 ghost use Rattle.hunt_search.specs.Searches.{is_failed};
@@ -15,7 +16,7 @@ use evm_room::NoMemory;
 use hunt_failures::Failure;
 use hunt_schedules::{
     AnyDevice, Chooser, Cycle, HuntStop, Machine, Orders, RunOutcome, Stretches, Way, begin,
-    run_schedule, schedule_of,
+    go_back, run_schedule, schedule_of,
 };
 use std::alloc::Global;
 
@@ -39,15 +40,34 @@ pub enum SearchSpan {
     Seeds(u64),
     /// Those with at most this number of switches.
     Switches(u8),
+    /// All.
+    All(SpaceCounts),
 }
 
-/// A schedule that was looked at: the machine that it has made, and how it ended.
+/// What a search of all schedules has counted.
+#[derive(Clone, Copy, Debug, PartialEq, Eq)]
+pub struct SpaceCounts {
+    /// The most ticks of a schedule; None for any number.
+    pub ticks: Option<u64>,
+    /// The states that were visited.
+    pub states: u64,
+    /// The events that were made at them.
+    pub events: u64,
+    /// The states at which nothing more can happen.
+    pub ends: u64,
+    /// Where a call reads the clock or names a time, which ended the search.
+    pub clock: Option<u64>,
+}
+
+/// A schedule that was looked at.
 #[derive(Clone, Copy)]
-pub(crate) struct Run<'a> {
+pub struct HuntRun<'a> {
     /// The seed, or the number of the schedule.
-    pub(crate) seed: u64,
-    pub(crate) machine: &'a Machine<AnyDevice>,
-    pub(crate) outcome: RunOutcome,
+    pub seed: u64,
+    /// The machine that it has made.
+    pub machine: &'a Machine<AnyDevice>,
+    /// How it ended.
+    pub outcome: RunOutcome,
 }
 
 /// A failure, once for each kind and place.
@@ -88,7 +108,7 @@ pub struct Report {
 
 impl Report {
     /// Nothing was looked at. `orders` says whether the orders of locks are.
-    pub(crate) fn new(alloc: Global, orders: bool) -> Report
+    pub fn new(alloc: Global, orders: bool) -> Report
         ensures { result.rows.items ≡ [] }
     {
         Report {
@@ -115,7 +135,7 @@ impl Report {
     }
 
     // Counts a schedule.
-    fn count(&mut self, run: &Run<'_>)
+    fn count(&mut self, run: &HuntRun<'_>)
         ensures { self.new.rows ≡ self.old.rows }
     {
         self.schedules = self.schedules.saturating_add(1);
@@ -127,7 +147,7 @@ impl Report {
     }
 
     /// Says whether there were more schedules than may be looked at.
-    pub(crate) fn set_cut(&mut self, cut: bool)
+    pub fn set_cut(&mut self, cut: bool)
         ensures rows { self.new.rows ≡ self.old.rows }
         ensures cut { self.new.cut ≡ cut }
     {
@@ -147,7 +167,12 @@ impl Report {
 }
 
 // The row of a schedule that has failed.
-fn row_of(alloc: Global, run: &Run<'_>, failure: Failure, key: FailureKey) -> Result<Row, NoMemory>
+fn row_of(
+    alloc: Global,
+    run: &HuntRun<'_>,
+    failure: Failure,
+    key: FailureKey,
+) -> Result<Row, NoMemory>
     ensures { IfOk result (λ row. row.failure ≡ Option.Some failure) }
 {
     match schedule_of(alloc, run.machine) {
@@ -183,7 +208,7 @@ fn cycle_row(alloc: Global, cycle: Cycle, events: u64, seed: u64) -> Row
 // Adds the orders of the locks of a schedule, if they are looked at.
 fn add_orders<O: Onlooker>(
     target: &Target<'_>,
-    run: &Run<'_>,
+    run: &HuntRun<'_>,
     report: &mut Report,
     onlooker: &mut O,
 ) -> Result<(), HuntStop>
@@ -211,7 +236,7 @@ fn add_orders<O: Onlooker>(
 // Adds the failure of a schedule, if it is new.
 fn add_failure<O: Onlooker>(
     target: &Target<'_>,
-    run: &Run<'_>,
+    run: &HuntRun<'_>,
     failure: Failure,
     report: &mut Report,
     onlooker: &mut O,
@@ -232,9 +257,13 @@ fn add_failure<O: Onlooker>(
 }
 
 /// Adds what a schedule came to.
-pub(crate) fn note<O: Onlooker>(
+///
+/// # Errors
+///
+/// Memory was refused.
+pub fn note<O: Onlooker>(
     target: &Target<'_>,
-    run: &Run<'_>,
+    run: &HuntRun<'_>,
     report: &mut Report,
     onlooker: &mut O,
 ) -> Result<(), HuntStop>
@@ -252,29 +281,61 @@ pub(crate) fn note<O: Onlooker>(
     }
 }
 
-// The schedule of a seed.
+// A seed, and how its schedule is chosen.
+#[derive(Clone, Copy)]
+struct Seed {
+    number: u64,
+    way: Way,
+}
+
+// The schedule of a seed, on a machine that has had no event.
 fn look<O: Onlooker>(
     target: &Target<'_>,
-    way: Way,
-    seed: u64,
+    seed: Seed,
+    machine: &mut Machine<AnyDevice>,
     report: &mut Report,
     onlooker: &mut O,
 ) -> Result<(), HuntStop>
-    requires { AreFound target.now.image.now target.now.boot.now target.now.wanted.now.lines report.old.rows.items }
+    requires found { AreFound target.now.image.now target.now.boot.now target.now.wanted.now.lines report.old.rows.items }
+    requires begins { Begins target.now.image.now target.now.boot.now machine.old }
+    requires fresh { IsReplayOf machine.old machine.old }
     ensures { OnOk result (AreFound target.now.image.now target.now.boot.now target.now.wanted.now.lines report.new.rows.items) }
 {
-    let mut machine = match begin(target.alloc, target.image, target.boot) {
-        Ok(machine) => machine,
-        Err(fault) => return Err(HuntStop::from(fault)),
-    };
-    let mut chooser = Chooser::new(seed, way, target.wanted.lines);
-    let outcome = run_schedule(&mut machine, &mut chooser, target.wanted);
-    let run = Run {
-        seed,
-        machine: &machine,
+    let mut chooser = Chooser::new(seed.number, seed.way, target.wanted.lines);
+    let outcome = run_schedule(machine, &mut chooser, target.wanted);
+    let run = HuntRun {
+        seed: seed.number,
+        machine,
         outcome,
     };
     note(target, &run, report, onlooker)
+}
+
+// Looks at the schedules of a plan. For each the machine is taken back to the first one.
+fn hunt_from<O: Onlooker>(
+    target: &Target<'_>,
+    plan: &Plan,
+    first: &Machine<AnyDevice>,
+    machine: &mut Machine<AnyDevice>,
+    onlooker: &mut O,
+) -> Result<Report, HuntStop>
+    requires begins { Begins target.now.image.now target.now.boot.now first.now }
+    requires fresh { IsReplayOf first.now first.now }
+    ensures { IfOk result (λ report. AreFound target.now.image.now target.now.boot.now target.now.wanted.now.lines report.rows.items) }
+{
+    let mut report = Report::new(target.alloc, plan.orders);
+    'seeds: for number in plan.first..=plan.last {
+        let seed = Seed {
+            number,
+            way: plan.way,
+        };
+        go_back(machine, first)?;
+        look(target, seed, machine, &mut report, onlooker)?;
+        if !onlooker.goes_on(report.schedules, report.rows.len() as u64) {
+            return Ok(report);
+        }
+    }
+    Ok(report)
 }
 
 /// Looks at the schedules of a plan, at least at one, until the onlooker ends the hunt: each failure once by its kind and place.
@@ -290,14 +351,9 @@ pub fn hunt<O: Onlooker>(
     // each failure is one of a machine that was booted with the image
     ensures { IfOk result (λ report. AreFound target.now.image.now target.now.boot.now target.now.wanted.now.lines report.rows.items) }
 {
-    let mut report = Report::new(target.alloc, plan.orders);
-    'seeds: for seed in plan.first..=plan.last {
-        look(target, plan.way, seed, &mut report, onlooker)?;
-        if !onlooker.goes_on(report.schedules, report.rows.len() as u64) {
-            return Ok(report);
-        }
-    }
-    Ok(report)
+    let first = begin(target.alloc, target.image, target.boot)?;
+    let mut machine = begin(target.alloc, target.image, target.boot)?;
+    hunt_from(target, plan, &first, &mut machine, onlooker)
 }
 
 /// How often the first random schedule of a mixed hunt chooses the processor that steps: change points of the others are spread among this

@@ -71,6 +71,15 @@ impl Shortening<'_> {
         Ok(made)
     }
 
+    // The stretches before a place.
+    fn front(&self, place: usize) -> Result<Stretches, NoMemory> {
+        let mut schedule = Vec::new(self.target.alloc);
+        for stretch in self.schedule.iter().take(place) {
+            push_stretch(&mut schedule, *stretch)?;
+        }
+        Ok(schedule)
+    }
+
     // Takes the first stretches up to a place, with steps of a processor behind them, if that fails alike and is shorter.
     fn end_at(&mut self, place: usize, cpu: u8) -> Result<bool, HuntStop> {
         let events = event_count(self.schedule.as_slice()).saturating_mul(2);
@@ -78,11 +87,8 @@ impl Shortening<'_> {
             return Ok(false);
         }
         let known = self.events_before(place);
-        let first = match self.schedule.as_slice().get(..place) {
-            Some(first) => first,
-            None => return Ok(false),
-        };
-        match self.failing(first, known, Some(Rest { cpu, events }))? {
+        let first = self.front(place)?;
+        match self.failing(first.as_slice(), known, Some(Rest { cpu, events }))? {
             Some(found) => Ok(self.take_shorter(found)),
             None => Ok(false),
         }

@@ -27,11 +27,14 @@ pub use hunt_schedules::{
     BeginFault, Boot, CAPACITY_LIMIT, Cycle, EventList, HuntStop, Machine, Orders, SIZE_LIMIT,
     Stretch, Stretches, Way,
 };
-pub use hunting::{Plan, Report, Row, SearchSpan, first_choices, first_length, hunt};
+pub use hunting::{
+    HuntRun, Plan, Report, Row, SearchSpan, SpaceCounts, first_choices, first_length, hunt, note,
+};
 pub use key::{FailureKey, kind_name};
 pub use onlooker::Onlooker;
-pub use reporting::{counts_text, row_text, schedule_text};
+pub use reporting::{clock_text, counts_text, row_text, schedule_text};
 pub use script::{failing_script, journal_text};
 pub use shortening::{PLAY_LIMIT, PLAYED_LIMIT, shorten};
 pub use switching::{Switching, hunt_all};
 pub use target::Target;
+pub use walking::{is_among, is_ended};

@@ -1,7 +1,7 @@
 //! A schedule that may be shorter is played, up to a failure.
 
 use hunt_failures::{Failure, Monitor, Wanted, awake_processors, is_over};
-use hunt_schedules::{AnyDevice, Event, Machine, NoBytes, Stretch, advance};
+use hunt_schedules::{AnyDevice, Event, Machine, NoBytes, Stretch, advance, event_count};
 
 // Makes an event, and looks whether it makes the machine fail; None of an event that is refused.
 fn make(
@@ -56,19 +56,45 @@ fn repeat_stretch(machine: &mut Machine<AnyDevice>, stretch: Stretch, known: u64
     Stretch::Steps(0, 0)
 }
 
-// Makes the events of a schedule, up to one that makes the machine fail. None of the first `known` does, so they are made without a look if one
-// state shows all that is looked for.
+// What is left of a stretch behind its first events.
+fn behind(stretch: Stretch, events: u64) -> Stretch {
+    match stretch {
+        Stretch::Steps(cpu, count) => Stretch::Steps(
+            cpu,
+            count - u64::from(count).min(events) as u32,
+        ),
+        Stretch::Tick | Stretch::Raise(_, _) => {
+            if events == 0 {
+                stretch
+            } else {
+                Stretch::Steps(0, 0)
+            }
+        }
+    }
+}
+
+/// Makes the events of a schedule on a machine that has had the first of them, until it has had `count` events, without a look.
+pub(crate) fn go_on_to(machine: &mut Machine<AnyDevice>, schedule: &[Stretch], count: u64) {
+    let mut had = machine.event_count();
+    for stretch in schedule {
+        let rest = behind(*stretch, had);
+        had = had.saturating_sub(event_count(&[*stretch]));
+        let left = count.saturating_sub(machine.event_count());
+        let _ = repeat_stretch(machine, rest, left);
+    }
+}
+
+// Makes the events of a schedule on a machine that has had the first of them, up to one that makes it fail.
 fn play(
     machine: &mut Machine<AnyDevice>,
     schedule: &[Stretch],
-    known: u64,
     wanted: &Wanted,
     monitor: &mut Monitor,
 ) -> Option<Failure> {
-    let unseen = if wanted.looks_at_states() { known } else { 0 };
+    let mut had = machine.event_count();
     for stretch in schedule {
-        let left = unseen.saturating_sub(machine.event_count());
-        let rest = repeat_stretch(machine, *stretch, left);
+        let rest = behind(*stretch, had);
+        had = had.saturating_sub(event_count(&[*stretch]));
         match take_stretch(machine, rest, wanted, monitor) {
             Some(failure) => return Some(failure),
             None => {}
@@ -126,16 +152,15 @@ fn finish(
     None
 }
 
-/// Makes the events of a schedule, and what comes behind them, up to one that makes the machine fail. None of the first `known` does.
+/// Makes the events of a schedule on a machine that has had the first of them, and what comes behind, up to one that makes it fail.
 pub(crate) fn play_all(
     machine: &mut Machine<AnyDevice>,
     schedule: &[Stretch],
-    known: u64,
     rest: Option<Rest>,
     wanted: &Wanted,
 ) -> Option<Failure> {
     let mut monitor = Monitor::new();
-    match play(machine, schedule, known, wanted, &mut monitor) {
+    match play(machine, schedule, wanted, &mut monitor) {
         Some(failure) => return Some(failure),
         None => {}
     }

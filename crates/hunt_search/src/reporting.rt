@@ -1,7 +1,7 @@
 //! What a hunt prints.
 
 use crate::found::Found;
-use crate::hunting::{Report, Row, SearchSpan};
+use crate::hunting::{Report, Row, SearchSpan, SpaceCounts};
 use crate::key::FailureKey;
 use evm_journal::{push_decimal, push_event_line};
 use evm_room::{NoMemory, Refused, push_text};
@@ -54,6 +54,13 @@ fn push_key(out: &mut String, key: &FailureKey, names: &Names) -> Result<(), Ref
     push_place(out, key.place, names)
 }
 
+// Appends where a call reads the clock.
+fn push_clock(out: &mut String, address: u64, names: &Names) -> Result<(), Refused> {
+    push_text(out, "clock ")?;
+    push_place(out, address, names)?;
+    push_text(out, "\n")
+}
+
 fn push_row(out: &mut String, row: &Row, names: &Names) -> Result<(), Refused> {
     push_key(out, &row.key, names)?;
     if let Some(failure) = row.failure {
@@ -101,27 +108,45 @@ fn push_schedule(out: &mut String, found: &Found, seed: u64, names: &Names) -> R
     push_events(out, &found.machine)
 }
 
-// Appends which schedules were looked at.
-fn push_span(out: &mut String, span: SearchSpan, schedules: u64) -> Result<(), Refused> {
+// Appends how many schedules were looked at, of how many events, and how many of them ended with a full journal.
+fn push_schedules(out: &mut String, report: &Report) -> Result<(), Refused> {
+    push_number(out, ": schedules ", report.schedules)?;
+    push_number(out, " events ", report.events)?;
+    push_number(out, " full ", report.full)
+}
+
+// Appends what a search of all schedules has counted.
+fn push_space(out: &mut String, counts: &SpaceCounts) -> Result<(), Refused> {
+    push_text(out, "all")?;
+    if let Some(ticks) = counts.ticks {
+        push_number(out, ", at most ", ticks)?;
+        push_text(out, " ticks")?;
+    }
+    push_number(out, ": states ", counts.states)?;
+    push_number(out, " events ", counts.events)?;
+    push_number(out, " ends ", counts.ends)
+}
+
+// Appends which schedules were looked at, and the counts.
+fn push_span(out: &mut String, report: &Report, span: SearchSpan) -> Result<(), Refused> {
     match span {
         SearchSpan::Seeds(first) => {
+            let last = first.saturating_add(report.schedules.saturating_sub(1));
             push_number(out, "seeds ", first)?;
-            push_number(
-                out,
-                " to ",
-                first.saturating_add(schedules.saturating_sub(1)),
-            )
+            push_number(out, " to ", last)?;
+            push_schedules(out, report)
         }
-        SearchSpan::Switches(most) => push_number(out, "switches ", u64::from(most)),
+        SearchSpan::Switches(most) => {
+            push_number(out, "switches ", u64::from(most))?;
+            push_schedules(out, report)
+        }
+        SearchSpan::All(counts) => push_space(out, &counts),
     }
 }
 
-// Appends the last line: how many schedules were looked at, of how many events, and how many of them ended with a full journal.
+// Appends the last line.
 fn push_counts(out: &mut String, report: &Report, span: SearchSpan) -> Result<(), Refused> {
-    push_span(out, span, report.schedules)?;
-    push_number(out, ": schedules ", report.schedules)?;
-    push_number(out, " events ", report.events)?;
-    push_number(out, " full ", report.full)?;
+    push_span(out, report, span)?;
     push_text(out, if report.cut { " cut\n" } else { "\n" })
 }
 
@@ -158,6 +183,17 @@ pub fn schedule_text(
 ) -> Result<String, NoMemory> {
     let mut text = String::new(alloc);
     let pushed = push_schedule(&mut text, found, seed, names);
+    whole(pushed, text)
+}
+
+/// The line of a call that reads the clock or names a time: `clock PLACE`.
+///
+/// # Errors
+///
+/// Memory was refused.
+pub fn clock_text(alloc: Global, address: u64, names: &Names) -> Result<String, NoMemory> {
+    let mut text = String::new(alloc);
+    let pushed = push_clock(&mut text, address, names);
     whole(pushed, text)
 }
 

@@ -1,11 +1,11 @@
 //! A failing schedule made shorter.
 
 use crate::key::FailureKey;
-use crate::playing::{Rest, play_all};
+use crate::playing::{Rest, go_on_to, play_all};
 use crate::target::Target;
 use hunt_failures::Failure;
 use hunt_schedules::{
-    AnyDevice, HuntStop, Machine, Stretch, Stretches, begin, event_count, schedule_of,
+    AnyDevice, HuntStop, Machine, Stretch, Stretches, begin, event_count, go_back, schedule_of,
 };
 
 /// How many schedules are played at most to make one shorter.
@@ -23,6 +23,12 @@ pub(crate) struct Shortening<'a> {
     pub(crate) schedule: Stretches,
     plays: u32,
     events: u64,
+    /// A machine that has had no event.
+    first: Machine<AnyDevice>,
+    /// The machine behind the first events of the shortest so far.
+    kept: Machine<AnyDevice>,
+    /// The machine on which a schedule is played.
+    played: Machine<AnyDevice>,
 }
 
 impl Shortening<'_> {
@@ -67,21 +73,35 @@ impl Shortening<'_> {
         Ok(Some(schedule_of(self.target.alloc, machine)?))
     }
 
+    // Takes the machine that is played to the state behind the first `known` events of the shortest so far if each state shows all that is
+    // looked for, or else to the first state.
+    fn take_back(&mut self, known: u64) -> Result<(), HuntStop> {
+        let known = if self.target.wanted.looks_at_states() {
+            known
+        } else {
+            0
+        };
+        if self.kept.event_count() > known {
+            go_back(&mut self.kept, &self.first)?;
+        }
+        go_on_to(&mut self.kept, self.schedule.as_slice(), known);
+        Ok(go_back(&mut self.played, &self.kept)?)
+    }
+
     /// A schedule and what comes behind it up to its failure, if it fails alike. Its first `known` events are those of the shortest so far.
     ///
     /// # Errors
     ///
     /// Memory was refused.
     pub(crate) fn failing(
-        &self,
+        &mut self,
         schedule: &[Stretch],
         known: u64,
         rest: Option<Rest>,
     ) -> Result<Option<Stretches>, HuntStop> {
-        let target = self.target;
-        let mut machine = begin(target.alloc, target.image, target.boot)?;
-        let failed = play_all(&mut machine, schedule, known, rest, target.wanted);
-        self.alike(&machine, failed)
+        self.take_back(known)?;
+        let failed = play_all(&mut self.played, schedule, rest, self.target.wanted);
+        self.alike(&self.played, failed)
     }
 
     /// Takes a schedule in the place of the shortest so far, if it is shorter; whether it is.
@@ -137,12 +157,16 @@ pub fn shorten(
     key: &FailureKey,
     schedule: Stretches,
 ) -> Result<Stretches, HuntStop> {
+    let (alloc, image, boot) = (target.alloc, target.image, target.boot);
     let mut shortening = Shortening {
         target: *target,
         key: *key,
         schedule,
         plays: PLAY_LIMIT,
         events: PLAYED_LIMIT,
+        first: begin(alloc, image, boot)?,
+        kept: begin(alloc, image, boot)?,
+        played: begin(alloc, image, boot)?,
     };
     for _ in 0..PLAY_LIMIT {
         if !shortening.pass()? {

@@ -13,7 +13,7 @@ ghost use Rattle.hunt_schedules.specs.Branches.{KeepsBranches};
 ghost use Rattle.hunt_schedules.specs.Searches.{IsPassed, IsSearched};
 
 use crate::going::{Walk, go_on};
-use crate::hunting::{Report, Run, note};
+use crate::hunting::{HuntRun, Report, note};
 use crate::onlooker::Onlooker;
 use crate::target::Target;
 use crate::tracking::Tracker;
@@ -90,7 +90,7 @@ fn look_at<O: Onlooker>(
         Ok(walk) => walk,
         Err(stop) => return Err(stop),
     };
-    let run = Run {
+    let run = HuntRun {
         seed: trial.walked.len() as u64,
         machine: &machine,
         outcome: walk.outcome,

@@ -103,8 +103,8 @@ pub(crate) fn begin_with(
     None
 }
 
-// Whether a processor is one of some.
-fn is_among(cpus: &[u8], cpu: u8) -> bool
+/// Whether a processor is one of some.
+pub fn is_among(cpus: &[u8], cpu: u8) -> bool
     ensures { result ≡ false → (i : ℕ) → slice_get cpus.now i ≡ Option.Some cpu → ⊥ }
 {
     'cpus: for c in cpus {
@@ -178,8 +178,8 @@ fn step_on(
     }
 }
 
-// Whether nothing more can happen.
-fn is_ended(machine: &Machine<AnyDevice>, awake: &[u8], lines: LineSet) -> bool
+/// Whether nothing more can happen, where no other processor than these can step.
+pub fn is_ended(machine: &Machine<AnyDevice>, awake: &[u8], lines: LineSet) -> bool
     requires { (c : ℕ) → IsAwake c machine.now → (i : ℕ) × (slice_get awake.now i ≡ Option.Some c) }
     ensures { IsTrue result → IsOver lines machine.now }
 {

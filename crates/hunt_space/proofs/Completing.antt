@@ -21,11 +21,11 @@ use Rattle.hunt_schedules.specs.Branches.{event_of_choice}
 use Rattle.hunt_schedules.specs.Schedules.{Behind, IsHarmless, NoneFails}
 use Rattle.hunt_schedules.specs.declared.branch.Choice.{Choice}
 use Rattle.hunt_schedules.specs.declared.branch.Choice.TheVariants as choices
-use Rattle.law_alike.proofs.AheadLaws.{none_is_ahead}
-use Rattle.law_alike.proofs.TimelessLaws.{boots_have_no_times}
-use Rattle.law_alike.specs.Ahead.{actor}
-use Rattle.law_alike.specs.Alike.{StampsBelow}
-use Rattle.law_alike.specs.Timeless.{HasNoTimes}
+use Rattle.law_runs.proofs.Alike.AheadLaws.{none_is_ahead}
+use Rattle.law_runs.proofs.Alike.TimelessLaws.{boots_have_no_times}
+use Rattle.law_runs.specs.Ahead.{actor}
+use Rattle.law_runs.specs.Alike.{StampsBelow}
+use Rattle.law_runs.specs.Timeless.{HasNoTimes}
 use Rattle.hunt_space.proofs.Covering.{alike-back, alike-more, alike-same, may-come}
 use Rattle.hunt_space.proofs.FailingAhead.{IsStill}
 use Rattle.hunt_space.proofs.Following.{Follows, Stands, catches, good-next, keeps, stands, step-is}

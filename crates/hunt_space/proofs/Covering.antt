@@ -17,11 +17,11 @@ use Rattle.hunt_failures.specs.Failures.{FailsAsWanted}
 use Rattle.hunt_failures.specs.declared.wanted.Wanted.{Wanted}
 use Rattle.hunt_space.proofs.Failing.{failures_are_alike}
 use Rattle.hunt_space.proofs.Making.{choices_are_alike}
-use Rattle.law_alike.proofs.Reading.{task_count-same, ticks-same}
-use Rattle.law_alike.proofs.Rows.{rows_keep_alike}
-use Rattle.law_alike.proofs.TimelessLaws.{rows_keep_alike_timeless}
-use Rattle.law_alike.specs.Alike.{AlikeBoards, StampsBelow}
-use Rattle.law_alike.specs.Timeless.{AlikeTimeless, HasNoTimes, timeless_board}
+use Rattle.law_runs.proofs.Alike.Reading.{task_count-same, ticks-same}
+use Rattle.law_runs.proofs.Alike.Rows.{rows_keep_alike}
+use Rattle.law_runs.proofs.Alike.TimelessLaws.{rows_keep_alike_timeless}
+use Rattle.law_runs.specs.Alike.{AlikeBoards, StampsBelow}
+use Rattle.law_runs.specs.Timeless.{AlikeTimeless, HasNoTimes, timeless_board}
 use Rattle.hunt_schedules.specs.Making.{MayMake}
 use Rattle.hunt_space.specs.declared.clock.TickBound.{TickBound}
 use Rattle.hunt_space.specs.declared.clock.TickBound.TheVariants.{AtMost, Free}

@@ -11,8 +11,8 @@ use Rattle.hunt_failures.specs.Failures.{FailsAsWanted, IsAnsweredLate, IsAtCall
 use Rattle.hunt_failures.specs.Failures.{is_ready_task as is_task_ready}
 use Rattle.hunt_failures.specs.declared.failure.Failure.TheVariants as failures
 use Rattle.hunt_failures.specs.declared.wanted.Wanted.{Wanted}
-use Rattle.law_alike.proofs.AheadReading.{hart-same}
-use Rattle.law_alike.specs.Ahead.{TasksAhead, actor}
+use Rattle.law_runs.proofs.Alike.AheadReading.{hart-same}
+use Rattle.law_runs.specs.Ahead.{TasksAhead, actor}
 use Rattle.hunt_space.proofs.Harmless.{both, one-ready, unready}
 use Rattle.hunt_space.proofs.Harts.{hart_board, with_harts}
 use Rattle.hunt_space.proofs.Private.{actor-runs, called-still, private-below}

@@ -18,12 +18,12 @@ use Rattle.evm_model.specs.declared.refusal.Refusal.TheVariants.{Full}
 use Rattle.hunt_failures.specs.Failures.{FailsAsWanted, IsAtCall, step_of}
 use Rattle.hunt_failures.specs.declared.wanted.Wanted.{Wanted}
 use Rattle.hunt_schedules.specs.declared.branch.CpuTurn.{CpuTurn}
-use Rattle.law_alike.proofs.AheadCatching.{steps_catch_up, steps_go_ahead}
-use Rattle.law_alike.proofs.AheadLaws.{actors_are_ready, raises_keep_ahead, ticks_keep_ahead}
-use Rattle.law_alike.proofs.AheadResting.{good_boards_rest}
-use Rattle.law_alike.proofs.AheadText.{sparing_steps_keep_ahead}
-use Rattle.law_alike.specs.Ahead.{IsAtTask, HeadStart, TasksAhead, actor, has_ready_state, one_less, one_more, private_hart, skips, text}
-use Rattle.law_alike.specs.Sparing.{spares_text}
+use Rattle.law_runs.proofs.Alike.AheadCatching.{steps_catch_up, steps_go_ahead}
+use Rattle.law_runs.proofs.Alike.AheadLaws.{actors_are_ready, raises_keep_ahead, ticks_keep_ahead}
+use Rattle.law_runs.proofs.Alike.AheadResting.{good_boards_rest}
+use Rattle.law_runs.proofs.Alike.AheadText.{sparing_steps_keep_ahead}
+use Rattle.law_runs.specs.Ahead.{IsAtTask, HeadStart, TasksAhead, actor, has_ready_state, one_less, one_more, private_hart, skips, text}
+use Rattle.law_runs.specs.Sparing.{spares_text}
 use Rattle.law_rules.proofs.Keeps.{row-good}
 use Rattle.law_rules.proofs.Replays.{accepted}
 use Rattle.hunt_space.proofs.Covering.{alike-back, alike-more, row-answer, row-board}

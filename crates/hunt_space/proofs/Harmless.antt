@@ -18,8 +18,8 @@ use Rattle.hunt_failures.specs.Failures.{FailsAsWanted, IsAbandoned, IsAtCall, I
 use Rattle.hunt_failures.specs.Failures.{is_ready_task as is_task_ready}
 use Rattle.hunt_failures.specs.declared.failure.Failure.TheVariants as failures
 use Rattle.hunt_failures.specs.declared.wanted.Wanted.{Wanted}
-use Rattle.law_alike.proofs.AheadPrivate.{acts}
-use Rattle.law_alike.specs.Ahead.{actor, has_ready_state}
+use Rattle.law_runs.proofs.Alike.AheadPrivate.{acts}
+use Rattle.law_runs.specs.Ahead.{actor, has_ready_state}
 use Rattle.hunt_space.proofs.Harts.{hart_board}
 use Rattle.hunt_space.proofs.Private.{actor-runs, task-below}
 

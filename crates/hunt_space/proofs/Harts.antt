@@ -6,7 +6,7 @@ use Rattle.evm_model.specs.State.{Board, State}
 use Rattle.evm_model.specs.declared.event.Event.TheVariants.{Step, Tick, Raise, Bell, Stop, Go, StepI, SetReg, SetPc, Poke, Break, Unbreak}
 use Rattle.evm_model.specs.declared.task.Task.{Task}
 use Rattle.hunt_failures.specs.Awake.{IsAwake, IsOver, is_done}
-use Rattle.law_alike.specs.Ahead.{BoardsAhead, HeadStart}
+use Rattle.law_runs.specs.Ahead.{BoardsAhead, HeadStart}
 use Rattle.hunt_space.specs.Runs.{MayCome}
 use Rattle.hunt_space.specs.declared.clock.TickBound.{TickBound}
 

@@ -13,3 +13,8 @@ pub mod Following
 pub mod Completing
 pub mod Unguarded
 pub mod Progress
+pub mod Choosing
+pub mod Walks
+pub mod Spared
+pub mod Closing
+pub mod Actors

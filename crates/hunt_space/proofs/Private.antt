@@ -16,11 +16,11 @@ use Rattle.evm_model.specs.declared.task.Task.{Task}
 use Rattle.evm_ram.specs.Bytes.{little_endian}
 use Rattle.evm_ram.specs.Ram.{bytes_at, read_at}
 use Rattle.hunt_failures.specs.Failures.{IsAtCall, is_at_pc, is_ecall}
-use Rattle.law_alike.proofs.AheadChanging.{goes-none}
-use Rattle.law_alike.proofs.AheadPrivate.{acts, fetched}
-use Rattle.law_alike.proofs.AheadReading.{task_count-same}
-use Rattle.law_alike.specs.Ahead.{TasksAhead, actor, goes, has_ready_state, private_hart, private_inst, private_word, text}
-use Rattle.law_alike.specs.Timeless.{hart_at, is_ecall_inst, is_ecall_word, makes_timed_call}
+use Rattle.law_runs.proofs.Alike.AheadChanging.{goes-none}
+use Rattle.law_runs.proofs.Alike.AheadPrivate.{acts, fetched}
+use Rattle.law_runs.proofs.Alike.AheadReading.{task_count-same}
+use Rattle.law_runs.specs.Ahead.{TasksAhead, actor, goes, has_ready_state, private_hart, private_inst, private_word, text}
+use Rattle.law_runs.specs.Timeless.{hart_at, is_ecall_inst, is_ecall_word, makes_timed_call}
 use Rattle.hunt_space.specs.Space.{CallsNone}
 use Rattle.hunt_space.specs.declared.clock.TickBound.{TickBound}
 use Rattle.hunt_space.specs.declared.clock.TickBound.TheVariants.{AtMost, Free}

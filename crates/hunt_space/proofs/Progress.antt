@@ -1,6 +1,8 @@
 -- How a search comes farther: what was visited and done stays so, and a path goes on step by step.
-use Rattle.std.proofs.Common.{◌≡◌, ℕ, zero, suc, ◌+◌, ◌<◌, ◌≤◌, ◌⊎◌, inl, inr, List, [], ◌∷◌, ◌++◌, Some, Ok, length, refl, sym, ap, subst, ◌∙◌, arith}
+use Rattle.std.proofs.Common.{◌≡◌, ℕ, zero, suc, ◌+◌, ◌<◌, ◌≤◌, ◌⊎◌, inl, inr, List, [], ◌∷◌, ◌++◌, Option, Some, Ok, true, length, get_or, refl, sym, ap, subst, ◌∙◌, arith}
 use Rattle.std.specs.Prelude.{slice_get}
+use Rattle.std.proofs.Math.Dec.{ltb}
+use Rattle.std.proofs.lemmas.Bool.Decides.{nat_tests}
 use Rattle.evm_model.specs.Event.{Event}
 use Rattle.evm_model.specs.Replay.{apply}
 use Rattle.evm_model.specs.State.{State}
@@ -13,8 +15,9 @@ use Rattle.hunt_schedules.specs.Schedules.{stepped}
 use Rattle.hunt_schedules.specs.declared.branch.CpuTurn.{CpuTurn}
 use Rattle.hunt_schedules.specs.declared.branch.Choice.{Choice}
 use Rattle.hunt_space.specs.Exploring.{HasFork, LeadsSafely}
+use Rattle.hunt_space.specs.Passing.{IsUnderWay}
 use Rattle.hunt_space.specs.Runs.{MayCome}
-use Rattle.hunt_space.specs.Space.{AreExplored, AreAllPaths, AreGone, AreAlikeStates, CallsNone, IsAt, IsKnown, IsExplored, IsExploredAt, IsGone, GoesPrivately, IsPassedAt, IsPathAt, IsUndebugged, IsVisited, KeepsPaths, KeepsPlaces, SparesText, StaysKnown, with_turn}
+use Rattle.hunt_space.specs.Space.{AreExplored, AreAllPaths, AreGone, AreAlikeStates, CallsNone, HasAlikeAt, IsAt, IsKnown, IsExplored, IsExploredAt, IsGone, GoesPrivately, IsPassedAt, IsPathAt, IsUndebugged, IsVisited, KeepsPaths, KeepsPlaces, SparesText, StaysKnown, with_turn}
 use Rattle.hunt_space.specs.declared.clock.TickBound.{TickBound}
 use Rattle.hunt_space.specs.declared.path.Path.{Path}
 use Rattle.hunt_space.specs.declared.visited.StatePlace.{StatePlace}
@@ -36,6 +39,15 @@ last-place (x ∷ xs) place = last-place xs place
 pub last-path : (paths : List Path) (path : Path) → slice_get (paths ++ path ∷ []) (length paths) ≡ Some path
 last-path [] path = refl
 last-path (x ∷ xs) path = last-path xs path
+
+found-there : (paths : List Path) (i : ℕ) (path : Path) → i < length paths → path ≡ get_or paths i path → slice_get paths i ≡ Some path
+found-there [] i path less h = absurd (omega arith)
+found-there (x ∷ xs) zero path less h = ap (λ (p : Path). let o : Option Path = Some p in o) (sym h)
+found-there (x ∷ xs) (suc i) path less h = found-there xs i path (omega arith) h
+
+-- the path at a number, as a list gives it
+pub item-there : (paths : List Path) (i : ℕ) (path : Path) → true ≡ ltb i (length paths) → path ≡ get_or paths i path → slice_get paths i ≡ Some path
+item-there paths i path within h = found-there paths i path (let less : i < length paths = grind (arith, nat_tests) in less) h
 
 pub length-last : (places : List StatePlace) (place : StatePlace) → length (places ++ place ∷ []) ≡ suc (length places)
 length-last [] place = refl
@@ -103,7 +115,7 @@ passed-still low high first paths paths' places places' i place keeps keeps' h =
   done = h.done;
 }
 
-are-done-still : (low high : ℕ) (wanted : Wanted) (clock : TickBound) (first : State) (paths paths' : List Path) (places places' : List StatePlace) (n : ℕ) → KeepsPaths paths paths' → KeepsPlaces places places' → n ≤ length places
+pub are-done-still : (low high : ℕ) (wanted : Wanted) (clock : TickBound) (first : State) (paths paths' : List Path) (places places' : List StatePlace) (n : ℕ) → KeepsPaths paths paths' → KeepsPlaces places places' → n ≤ length places
     → AreExplored low high clock (MayCome wanted.lines clock) (FailsAsWanted wanted) first paths places n → AreExplored low high clock (MayCome wanted.lines clock) (FailsAsWanted wanted) first paths' places' n
 are-done-still low high wanted clock first paths paths' places places' n keeps keeps' within h i place less there =
     elim (h i place less (one-place places places' i place keeps' (omega arith) there)) [
@@ -123,15 +135,6 @@ gone-still wanted clock first paths paths' places places' turns keeps keeps' h =
 abbrev pub CallsNoneOf : Wanted → TickBound → State → Type 0
 CallsNoneOf wanted clock s = (event : Event) → MayCome wanted.lines clock s event → CallsNone clock event s
 
--- all is done at each place but the last, which is that of this state
-pub record IsUnderWay (low high : ℕ) (wanted : Wanted) (clock : TickBound) (first : State) (paths : List Path) (places : List StatePlace) (number : ℕ) (turns : List CpuTurn) (cpu steps : ℕ) (s : State) : Type 0 where
-  pub count : ℕ
-  pub counted : length places ≡ suc count
-  pub last : slice_get places count ≡ Some (record { path = number; steps = steps })
-  pub path : IsPathAt paths number turns cpu
-  pub at : IsAt first turns cpu steps s
-  pub done : AreExplored low high clock (MayCome wanted.lines clock) (FailsAsWanted wanted) first paths places count
-
 -- a state whose place is the last one is visited
 pub visited-last : (clock : TickBound) (first : State) (paths : List Path) (places after : List StatePlace) (number : ℕ) (turns : List CpuTurn) (cpu steps : ℕ) (s : State) → IsPathAt paths number turns cpu → IsAt first turns cpu steps s
     → after ≡ places ++ record { path = number; steps = steps } ∷ [] → AreAlikeStates clock s s → IsKnown clock first paths after s
@@ -139,20 +142,6 @@ visited-last clock first paths places after number turns cpu steps s path at e i
     let place : StatePlace = record { path = number; steps = steps } in
     let there : slice_get after (length places) ≡ Some place = ap (λ (xs : List StatePlace). slice_get xs (length places)) e ∙ last-place places place in
     (s, record { index = length places; place = place; turns = turns; cpu = cpu; there = there; path = path; reached = at }, itself)
-
-pub begins-way : (low high : ℕ) (wanted : Wanted) (clock : TickBound) (first : State) (paths : List Path) (places after : List StatePlace) (number : ℕ) (turns : List CpuTurn) (cpu : ℕ) (s : State) → IsPathAt paths number turns cpu → IsAt first turns cpu 0 s
-    → after ≡ places ++ record { path = number; steps = 0 } ∷ [] → AreExplored low high clock (MayCome wanted.lines clock) (FailsAsWanted wanted) first paths places (length places)
-    → IsUnderWay low high wanted clock first paths after number turns cpu 0 s
-begins-way low high wanted clock first paths places after number turns cpu s path at e done =
-    let place : StatePlace = record { path = number; steps = 0 } in
-    let keeps : KeepsPlaces places after = λ i x h. subst (λ (xs : List StatePlace). slice_get xs i ≡ Some x) (sym e) (places-more places (place ∷ []) i x h) in record {
-      count = length places;
-      counted = ap length e ∙ length-last places place;
-      last = ap (λ (xs : List StatePlace). slice_get xs (length places)) e ∙ last-place places place;
-      path = path;
-      at = at;
-      done = are-done-still low high wanted clock first paths paths places after (length places) (λ j x h. h) keeps (omega arith) done;
-    }
 
 before-or-last : (i n : ℕ) → i < suc n → (i < n) ⊎ (i ≡ n)
 before-or-last zero zero less = inr refl
@@ -185,7 +174,7 @@ lasts low high wanted clock first paths paths' places places' number turns cpu s
     ]
 
 -- it is explored
-finishes : (low high : ℕ) (wanted : Wanted) (clock : TickBound) (first : State) (paths paths' : List Path) (places places' : List StatePlace) (number : ℕ) (turns : List CpuTurn) (cpu steps : ℕ) (s : State)
+pub finishes : (low high : ℕ) (wanted : Wanted) (clock : TickBound) (first : State) (paths paths' : List Path) (places places' : List StatePlace) (number : ℕ) (turns : List CpuTurn) (cpu steps : ℕ) (s : State)
     → (way : IsUnderWay low high wanted clock first paths places number turns cpu steps s) → KeepsPaths paths paths' → KeepsPlaces places places' → AreAllPaths (MayCome wanted.lines clock) paths' turns cpu steps s → CallsNoneOf wanted clock s
     → SparesText low high (MayCome wanted.lines clock) s → IsUndebugged s → (MayCome wanted.lines clock s (Step cpu) → StaysKnown clock (FailsAsWanted wanted) first paths' places' s (Step cpu))
     → AreExplored low high clock (MayCome wanted.lines clock) (FailsAsWanted wanted) first paths' places' (length places)
@@ -199,44 +188,11 @@ finishes low high wanted clock first paths paths' places places' number turns cp
     }))
 
 -- a step that was made leads to a state that is covered
-made-stays : (wanted : Wanted) (clock : TickBound) (first : State) (paths : List Path) (places : List StatePlace) (s after : State) (event : Event) → LeadsSafely wanted s event after → IsKnown clock first paths places after
+pub made-stays : (wanted : Wanted) (clock : TickBound) (first : State) (paths : List Path) (places : List StatePlace) (s after : State) (event : Event) → LeadsSafely wanted s event after → IsKnown clock first paths places after
     → StaysKnown clock (FailsAsWanted wanted) first paths places s event
 made-stays wanted clock first paths places s after event made covered = record { after = after; answer = made.answer; accepted = made.accepted; harmless = made.harmless; known = covered }
 
--- the path ends at a state that is covered
-pub ends-covered : (low high : ℕ) (wanted : Wanted) (clock : TickBound) (first : State) (paths paths' : List Path) (places places' : List StatePlace) (number : ℕ) (turns : List CpuTurn) (cpu steps : ℕ) (s after : State)
-    → IsUnderWay low high wanted clock first paths places number turns cpu steps s → KeepsPaths paths paths' → places' ≡ places → AreAllPaths (MayCome wanted.lines clock) paths' turns cpu steps s → CallsNoneOf wanted clock s → SparesText low high (MayCome wanted.lines clock) s → IsUndebugged s
-    → LeadsSafely wanted s (Step cpu) after → IsKnown clock first paths' places' after → AreExplored low high clock (MayCome wanted.lines clock) (FailsAsWanted wanted) first paths' places' (length places')
-ends-covered low high wanted clock first paths paths' places places' number turns cpu steps s after way keeps same forks calls spares clean made covered =
-    subst (λ (n : ℕ). AreExplored low high clock (MayCome wanted.lines clock) (FailsAsWanted wanted) first paths' places' n) (ap length (sym same))
-    (finishes low high wanted clock first paths paths' places places' number turns cpu steps s way keeps (places-same places places' same) forks calls spares clean (λ may. made-stays wanted clock first paths' places' s after (Step cpu) made covered))
-
--- .. or where its processor can't step
-pub ends-over : (low high : ℕ) (wanted : Wanted) (clock : TickBound) (first : State) (paths paths' : List Path) (places : List StatePlace) (number : ℕ) (turns : List CpuTurn) (cpu steps : ℕ) (s : State)
-    → IsUnderWay low high wanted clock first paths places number turns cpu steps s → KeepsPaths paths paths' → AreAllPaths (MayCome wanted.lines clock) paths' turns cpu steps s → CallsNoneOf wanted clock s → SparesText low high (MayCome wanted.lines clock) s → IsUndebugged s
-    → (MayCome wanted.lines clock s (Step cpu) → ⊥) → AreExplored low high clock (MayCome wanted.lines clock) (FailsAsWanted wanted) first paths' places (length places)
-ends-over low high wanted clock first paths paths' places number turns cpu steps s way keeps forks calls spares clean cant =
-    finishes low high wanted clock first paths paths' places places number turns cpu steps s way keeps (λ i x h. h) forks calls spares clean (λ may. absurd (cant may))
-
--- .. or goes on
-pub goes-on : (low high : ℕ) (wanted : Wanted) (clock : TickBound) (first : State) (paths paths' : List Path) (places places' : List StatePlace) (number : ℕ) (turns : List CpuTurn) (cpu steps : ℕ) (s after : State)
-    → IsUnderWay low high wanted clock first paths places number turns cpu steps s → KeepsPaths paths paths' → places' ≡ places ++ record { path = number; steps = steps + 1 } ∷ []
-    → AreAllPaths (MayCome wanted.lines clock) paths' turns cpu steps s → CallsNoneOf wanted clock s → SparesText low high (MayCome wanted.lines clock) s → IsUndebugged s → LeadsSafely wanted s (Step cpu) after → IsKnown clock first paths' places' after
-    → IsUnderWay low high wanted clock first paths' places' number turns cpu (steps + 1) after
-goes-on low high wanted clock first paths paths' places places' number turns cpu steps s after way keeps e forks calls spares clean made covered =
-    let place : StatePlace = record { path = number; steps = steps + 1 } in
-    let path' = path-still paths paths' number turns cpu keeps way.path in
-    let at : IsAt first turns cpu (steps + 1) after = at-next first s after turns cpu steps made.answer way.at made.accepted in
-    let keeps' : KeepsPlaces places places' = λ i x h. subst (λ (xs : List StatePlace). slice_get xs i ≡ Some x) (sym e) (places-more places (place ∷ []) i x h) in record {
-      count = length places;
-      counted = ap length e ∙ length-last places place;
-      last = ap (λ (xs : List StatePlace). slice_get xs (length places)) e ∙ last-place places place;
-      path = path';
-      at = at;
-      done = finishes low high wanted clock first paths paths' places places' number turns cpu steps s way keeps keeps' forks calls spares clean (λ may. made-stays wanted clock first paths' places' s after (Step cpu) made covered);
-    }
-
--- .. or passes this state by a private row
+-- the path passes this state by a private row
 pub passes-on : (low high : ℕ) (wanted : Wanted) (clock : TickBound) (first : State) (paths : List Path) (places places' : List StatePlace) (number : ℕ) (turns : List CpuTurn) (cpu steps : ℕ) (s after : State) (answer : Answer)
     → IsUnderWay low high wanted clock first paths places number turns cpu steps s → GoesPrivately low high cpu s → places' ≡ places ++ record { path = number; steps = steps + 1 } ∷ [] → apply s (Step cpu) ≡ Ok (after, answer)
     → IsUnderWay low high wanted clock first paths places' number turns cpu (steps + 1) after
@@ -281,3 +237,9 @@ gone-more wanted clock first paths paths' places places' n turns cpu keeps keeps
           let turns' : turns ≡ path.turns.items = sym here.2 ∙ ap (λ (p : Path). p.turns.items) is in
           subst (λ (xs : List CpuTurn). IsGone clock (FailsAsWanted wanted) first paths' places' xs) turns' gone
     ]
+
+-- the state of a place that was visited is alike
+pub known-by : (clock : TickBound) (first : State) (paths : List Path) (places : List StatePlace) (place : StatePlace) (s : State) → (i : ℕ) × (slice_get places i ≡ Some place) → HasAlikeAt clock first paths place s
+    → IsKnown clock first paths places s
+known-by clock first paths places place s at h =
+    (h.seen, record { index = at.0; place = place; turns = h.turns; cpu = h.cpu; there = at.1; path = h.path; reached = h.reached }, h.alike)

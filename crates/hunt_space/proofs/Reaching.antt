@@ -1,6 +1,13 @@
 -- Paths: the turns and steps that lead to a state.
 use Rattle.std.proofs.Common.{◌≡◌, ℕ, zero, suc, ◌+◌, List, [], ◌∷◌, ◌++◌, Option, Result, Ok, Err, replicate, refl, sym, ap, subst, ◌∙◌, append_assoc, arith}
+use Rattle.std.specs.Prelude.{map}
 use Rattle.std.proofs.lemmas.List.{append-nil}
+use Rattle.evm_dev.specs.declared.kind.Kind.{Kind}
+use Rattle.evm_model.specs.Devices.{Attached}
+use Rattle.evm_model.specs.declared.boot.Boot.{Boot}
+use Rattle.evm_ram.specs.Images.{Contents}
+use Rattle.hunt_schedules.specs.Beginning.{Begins}
+use Rattle.law_runs.proofs.Kept.{sizes_stay}
 use Rattle.evm_core.specs.Steps.{steps, behind_step}
 use Rattle.evm_model.specs.Event.{Event}
 use Rattle.evm_model.specs.Replay.{apply, left_by, replay}
@@ -91,3 +98,17 @@ two-replays s t u xs ys h g = g ∙ (ap (λ (x : State). replay x ys) h ∙ sym 
 pub no-events : (s : State) → s ≡ replay s []
 unfolding replay
 no-events s = refl
+
+-- ---- the boot
+pub one-boot : (image : Contents) (boot : Boot) (a b : State) → Begins image boot a → Begins image boot b → a ≡ b
+one-boot image boot a b h g = let both : Ok a ≡ Ok b = sym h ∙ g in cc
+
+-- the devices of two states that events lead to are of the same kinds
+abbrev pub kinds_of : State → List Kind
+kinds_of s = map (λ (device : Attached). device.kind) s.board.memory.devices
+
+kinds-stay : (s : State) (events : List Event) → kinds_of (replay s events) ≡ kinds_of s
+kinds-stay s events = (sizes_stay s events).sizes.devices
+
+pub same-kinds : (first s t : State) (xs ys : List Event) → s ≡ replay first xs → t ≡ replay first ys → kinds_of s ≡ kinds_of t
+same-kinds first s t xs ys h g = (ap kinds_of h ∙ kinds-stay first xs) ∙ sym (ap kinds_of g ∙ kinds-stay first ys)

@@ -9,8 +9,8 @@ use Rattle.evm_model.specs.declared.task.Task.{Task}
 use Rattle.evm_model.specs.declared.notice.Notice.{Notice}
 use Rattle.evm_model.specs.declared.notice.NoticeKind.{NoticeKind}
 use Rattle.hunt_failures.specs.Failures.{is_notice_of}
-use Rattle.law_alike.specs.Alike.{AlikeBoards, unstamped, uncounted}
-use Rattle.law_alike.specs.Timeless.{AlikeTimeless, undated}
+use Rattle.law_runs.specs.Alike.{AlikeBoards, unstamped, uncounted}
+use Rattle.law_runs.specs.Timeless.{AlikeTimeless, undated}
 
 -- the same is read of both
 pub record ReadsSame (a b : Board) : Type 0 where

@@ -9,11 +9,11 @@ use Rattle.evm_model.specs.declared.event.Answer.{Answer}
 use Rattle.evm_model.specs.declared.processor.Processor.{Processor}
 use Rattle.hunt_failures.specs.Failures.{is_in_band_task, is_out_of_band}
 use Rattle.hunt_failures.specs.declared.wanted.Wanted.{Wanted}
-use Rattle.law_alike.proofs.Rows.{rows_keep_alike}
-use Rattle.law_alike.proofs.TimelessLaws.{rows_keep_alike_timeless}
-use Rattle.law_alike.specs.Ahead.{actor, actor_among}
-use Rattle.law_alike.specs.Alike.{AlikeBoards, uncounted}
-use Rattle.law_alike.specs.Timeless.{AlikeTimeless, HasNoTimes}
+use Rattle.law_runs.proofs.Alike.Rows.{rows_keep_alike}
+use Rattle.law_runs.proofs.Alike.TimelessLaws.{rows_keep_alike_timeless}
+use Rattle.law_runs.specs.Ahead.{actor, actor_among}
+use Rattle.law_runs.specs.Alike.{AlikeBoards, uncounted}
+use Rattle.law_runs.specs.Timeless.{AlikeTimeless, HasNoTimes}
 use Rattle.hunt_space.proofs.Covering.{fails-alike}
 use Rattle.hunt_space.proofs.Failing.{current-same}
 use Rattle.hunt_space.proofs.Reading.{ReadsSame, read-pipe, read-task, reads-same, reads-timeless}

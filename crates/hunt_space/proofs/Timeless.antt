@@ -10,7 +10,7 @@ use Rattle.hunt_space.specs.Alike.{ChoicesAreTimeless, FailuresAreTimeless}
 use Rattle.hunt_space.proofs.Failing.{fails-same}
 use Rattle.hunt_space.proofs.Making.{makes-same}
 use Rattle.hunt_space.proofs.Reading.{reads-timeless}
-use Rattle.law_alike.specs.Timeless.{AlikeTimeless}
+use Rattle.law_runs.specs.Timeless.{AlikeTimeless}
 
 pub fails-timeless : (wanted : Wanted) (s t after behind : State) (event : Event) (answer : Answer) → AlikeTimeless s.board t.board → AlikeTimeless after.board behind.board
     → FailsAsWanted wanted s event answer after → FailsAsWanted wanted t event answer behind

@@ -29,7 +29,7 @@ use Rattle.hunt_failures.specs.declared.wanted.Wanted.{Wanted}
 use Rattle.hunt_schedules.specs.Beginning.{Begins}
 use Rattle.hunt_schedules.specs.Branches.{event_of_choice, events_of_turns}
 use Rattle.hunt_schedules.specs.declared.branch.CpuTurn.{CpuTurn}
-use Rattle.law_alike.specs.Ahead.{actor_now, actor_among, actor_on}
+use Rattle.law_runs.specs.Ahead.{actor_now, actor_among, actor_on}
 use Rattle.law_rules.proofs.PlayingWalks.{first_on}
 use Rattle.law_rules.proofs.Replays.{accepted}
 use Rattle.law_rules.proofs.States.{GoodState-replay}

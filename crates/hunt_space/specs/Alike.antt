@@ -3,8 +3,8 @@ use Rattle.std.specs.Prelude.{List, ℕ}
 use Rattle.evm_model.specs.Event.{Event}
 use Rattle.evm_model.specs.State.{State}
 use Rattle.evm_model.specs.declared.event.Answer.{Answer}
-use Rattle.law_alike.specs.Alike.{AlikeBoards}
-use Rattle.law_alike.specs.Timeless.{AlikeTimeless}
+use Rattle.law_runs.specs.Alike.{AlikeBoards}
+use Rattle.law_runs.specs.Timeless.{AlikeTimeless}
 use Rattle.hunt_failures.specs.Failures.{FailsAsWanted}
 use Rattle.hunt_schedules.specs.Making.{MayMake}
 use Rattle.hunt_failures.specs.declared.wanted.Wanted.{Wanted}

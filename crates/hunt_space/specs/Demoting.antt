@@ -6,7 +6,7 @@ use Rattle.evm_model.specs.State.{State}
 use Rattle.evm_model.specs.declared.event.Answer.{Answer}
 use Rattle.hunt_failures.specs.Failures.{FailsAsWanted, is_in_band_task, is_out_of_band, step_of}
 use Rattle.hunt_failures.specs.declared.wanted.Wanted.{Wanted}
-use Rattle.law_alike.specs.Ahead.{actor}
+use Rattle.law_runs.specs.Ahead.{actor}
 
 -- task t, which was current and out-of-band on the processor that stepped and did none of its instructions, is in-band
 pub record IsDemotedByLine (t : ℕ) (before : State) (event : Event) (s : State) : Type 0 where

@@ -4,3 +4,7 @@ pub mod Demoting
 pub mod Runs
 pub mod Space
 pub mod Exploring
+pub mod Going
+pub mod Searched
+pub mod Effects
+pub mod Passing

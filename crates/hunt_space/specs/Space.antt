@@ -10,10 +10,10 @@ use Rattle.hunt_schedules.specs.Branches.{event_of_choice, events_of_turns}
 use Rattle.hunt_schedules.specs.Schedules.{stepped}
 use Rattle.hunt_schedules.specs.declared.branch.Choice.{Choice}
 use Rattle.hunt_schedules.specs.declared.branch.CpuTurn.{CpuTurn}
-use Rattle.law_alike.specs.Ahead.{actor, private_hart, skips, text}
-use Rattle.law_alike.specs.Alike.{AlikeBoards}
-use Rattle.law_alike.specs.Sparing.{spares_text}
-use Rattle.law_alike.specs.Timeless.{AlikeTimeless, CallsNoClock, HasNoTimes}
+use Rattle.law_runs.specs.Ahead.{actor, private_hart, skips, text}
+use Rattle.law_runs.specs.Alike.{AlikeBoards}
+use Rattle.law_runs.specs.Sparing.{spares_text}
+use Rattle.law_runs.specs.Timeless.{AlikeTimeless, CallsNoClock, HasNoTimes}
 use Rattle.hunt_space.specs.declared.clock.TickBound.{TickBound}
 use Rattle.hunt_space.specs.declared.clock.TickBound.TheVariants.{AtMost, Free}
 use Rattle.hunt_space.specs.declared.path.Path.{Path}

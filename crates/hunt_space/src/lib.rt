@@ -1,14 +1,33 @@
-//! A search that makes private rows at once.
+//! A search of every schedule of a program: each event that may come is made at each state, up to states that are alike to one that was
+//! visited. Where it ends, no schedule fails, however long it is.
 #![tactic(auto)]
 
+mod attempt;
 mod clock;
+mod exploring;
+mod frontier;
+mod going;
+mod passing;
 mod path;
+mod replaying;
+mod rows;
+mod searching;
+mod seeing;
+mod text;
+mod turning;
+mod undebugged;
 mod visited;
+mod walking;
 
 ghost use Rattle.hunt_space.specs.Complete.{SearchesAreComplete, SearchesWithoutWatchdog};
 
+pub use attempt::Attempt;
 pub use clock::TickBound;
+pub use frontier::Frontier;
 pub use path::Path;
+pub use searching::{SpaceBounds, SpaceReport, hunt_space};
+pub use seeing::Arrival;
+pub use text::TextSpan;
 pub use visited::StatePlace;
 
 /// Where each state that was visited was explored, or passed by a private row, and each path was gone, no schedule fails.

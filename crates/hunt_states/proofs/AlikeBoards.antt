@@ -13,8 +13,8 @@ use Rattle.evm_model.specs.declared.boot.Boot.{Boot}
 use Rattle.hunt_states.specs.Same.{AreSameMemories}
 use Rattle.hunt_states.specs.Places.{AreAlikeAt, AreAlikeBeside, AreAlikeBoots}
 use Rattle.hunt_states.proofs.Equal.{kinds_of, same-actions, same-by-get, same-devices, same-events, same-watches}
-use Rattle.law_alike.specs.Alike.{AlikeBoards, SameOrder, StampsBelow, erased, uncounted, unstamped}
-use Rattle.law_alike.specs.Timeless.{AlikeTimeless, timeless, undated}
+use Rattle.law_runs.specs.Alike.{AlikeBoards, SameOrder, StampsBelow, erased, uncounted, unstamped}
+use Rattle.law_runs.specs.Timeless.{AlikeTimeless, timeless, undated}
 
 -- ---- lists whose elements have the same images
 images-by-get : {X : Type 0} (f : X → X) (n : ℕ) (xs ys : List X) → length xs ≤ n → length ys ≤ n → ((i : ℕ) → i < n → option_map f (slice_get xs i) ≡ option_map f (slice_get ys i)) → map f xs ≡ map f ys

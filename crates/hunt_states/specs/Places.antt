@@ -6,8 +6,8 @@ use Rattle.evm_model.specs.State.{Parts}
 use Rattle.evm_model.specs.Watch.{watch}
 use Rattle.evm_model.specs.declared.boot.Boot.{Boot}
 use Rattle.hunt_states.specs.Same.{AreSameObjects}
-use Rattle.law_alike.specs.Alike.{unstamped}
-use Rattle.law_alike.specs.Timeless.{undated}
+use Rattle.law_runs.specs.Alike.{unstamped}
+use Rattle.law_runs.specs.Timeless.{undated}
 
 -- boots that differ in how many events the journal takes
 pub record AreAlikeBoots (a b : Boot) : Type 0 where

@@ -5,8 +5,8 @@ ghost use Rattle.evm_model.specs.Devices.{Attached};
 ghost use Rattle.evm_model.specs.Ranks.{stamp};
 ghost use Rattle.evm_model.specs.declared.limits.TheConstants.{TASK_LIMIT};
 ghost use Rattle.hunt_states.specs.Places.{AreAlikeAt, AreAlikeBeside, AreAlikeBoots, AreAlikeLines, AreAlikeRunners};
-ghost use Rattle.law_alike.specs.Alike.{AlikeBoards, SameOrder};
-ghost use Rattle.law_alike.specs.Timeless.{AlikeTimeless};
+ghost use Rattle.law_runs.specs.Alike.{AlikeBoards, SameOrder};
+ghost use Rattle.law_runs.specs.Timeless.{AlikeTimeless};
 
 use crate::lists::same_objects;
 use crate::memory::same_memories;

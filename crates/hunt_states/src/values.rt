@@ -1,8 +1,8 @@
 //! Whether two values of the machine's lists are the same.
 
 ghost use Rattle.std.specs.Prelude.{◌≡◌, true, option_map};
-ghost use Rattle.law_alike.specs.Alike.{unstamped};
-ghost use Rattle.law_alike.specs.Timeless.{undated};
+ghost use Rattle.law_runs.specs.Alike.{unstamped};
+ghost use Rattle.law_runs.specs.Timeless.{undated};
 
 use evm_core::Stages;
 use evm_lines::LineSet;

@@ -1,5 +1,6 @@
 pub mod Added
 pub mod Alarms
+pub mod Alike
 pub mod Balance
 pub mod Breakpoints
 pub mod Commands

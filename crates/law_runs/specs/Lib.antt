@@ -1,3 +1,5 @@
+pub mod Ahead
+pub mod Alike
 pub mod Balance
 pub mod Changes
 pub mod Due
@@ -11,5 +13,8 @@ pub mod Order
 pub mod Own
 pub mod Places
 pub mod Replays
+pub mod Resting
+pub mod Sparing
+pub mod Timeless
 pub mod Touching
 pub mod Unanswered

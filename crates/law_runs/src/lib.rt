@@ -13,6 +13,11 @@ ghost use Rattle.law_runs.specs.Order.{LinesRise, LogsPlayInOrder, MutexesPassBy
 ghost use Rattle.law_runs.specs.Own.{CallsLeave};
 ghost use Rattle.law_runs.specs.Replays.{HartsLoaded, LoadsEachByte, LoadsNoMore, LoadsSoManyBytes, ReplaysJoin, StartsAsReplay, StaysReplay};
 ghost use Rattle.law_runs.specs.Unanswered.{LoadsTouch, UnansweredFaults, WhoAnswersNone};
+ghost use Rattle.law_runs.specs.Ahead.{ActorsAreReady, ActorsAreSame, NoneIsAhead, RaisesKeepAhead, StepsCatchUp, StepsGoAhead, StepsKeepAhead, TicksKeepAhead};
+ghost use Rattle.law_runs.specs.Alike.{RowsKeepAlike};
+ghost use Rattle.law_runs.specs.Timeless.{AlikeCallNoClock, BootsHaveNoTimes, RowsKeepAlikeTimeless, TimelessRows};
+ghost use Rattle.law_runs.specs.Resting.{GoodBoardsRest};
+ghost use Rattle.law_runs.specs.Sparing.{SparingStepsKeepAhead, StepsSpareText};
 
 /// No interrupt is lost and none is played twice: after every boot, with whichever devices, and every list of events,
 /// also where an image was loaded before, each line of each processor was raised as often as it merged on the wire, is
@@ -159,4 +164,58 @@ pub fn accesses_are_answered()
     ensures faults { UnansweredFaults }
     ensures none { WhoAnswersNone }
     ensures loads { LoadsTouch }
+{}
+
+/// After every event boards that were alike are alike, and the event's answer is the same.
+pub fn rows_keep_alike()
+    ensures { RowsKeepAlike }
+{}
+
+/// Where no time is named and no call reads the clock, every event does the same whatever the count of ticks is.
+pub fn rows_read_no_clock()
+    ensures { TimelessRows }
+{}
+
+/// There boards that were alike except for their clocks are so after every event, and the event's answer is the same.
+pub fn rows_keep_alike_timeless()
+    ensures { RowsKeepAlikeTimeless }
+{}
+
+/// An event that calls no clock on one of two such boards calls none on the other.
+pub fn alike_call_no_clock()
+    ensures { AlikeCallNoClock }
+{}
+
+/// A machine that booted has no times, nor has one that was loaded.
+pub fn boots_have_no_times()
+    ensures { BootsHaveNoTimes }
+{}
+
+/// Where tasks are ahead by private rows, a Step of another task or of a line, a Tick and a Raise leave each as many rows ahead, and answer the
+/// same, if the text stays from which private rows are taken. Steps are of the same tasks.
+pub fn rows_keep_ahead()
+    ensures steps { StepsKeepAhead }
+    ensures ticks { TicksKeepAhead }
+    ensures raises { RaisesKeepAhead }
+    ensures actors { ActorsAreSame }
+{}
+
+/// A Step of a task that is ahead catches up by one row; a Step of a private row puts its task ahead by one row more. No task is
+/// ahead of itself, and each whose instruction comes is ready.
+pub fn private_steps_commute()
+    ensures behind { StepsCatchUp }
+    ensures ahead { StepsGoAhead }
+    ensures none { NoneIsAhead }
+    ensures ready { ActorsAreReady }
+{}
+
+/// A Step of an instruction that stores outside the text leaves the text; so it leaves each task as many rows ahead if its own isn't ahead.
+pub fn steps_spare_text()
+    ensures text { StepsSpareText }
+    ensures ahead { SparingStepsKeepAhead }
+{}
+
+/// Where the rules hold, nothing follows a private row.
+pub fn good_boards_rest()
+    ensures { GoodBoardsRest }
 {}

@@ -1,6 +1,6 @@
 //! The marks by which a machine differs from what was seen of it.
 
-ghost use Rattle.std.specs.Prelude.{◌≡◌, ◌+◌, ◌++◌, ◌<◌, OnOk, length, option_copied, slice_get};
+ghost use Rattle.std.specs.Prelude.{◌≡◌, ◌+◌, ◌++◌, ◌<◌, ℕ, [], OnOk, Option, length, option_copied, slice_get, true};
 ghost use Rattle.evm_model.specs.State.{Parts};
 ghost use Rattle.evm_model.specs.declared.limits.TheConstants.{PROCESSOR_LIMIT as PROCESSORS};
 ghost use Rattle.run_marks.specs.Lists.{below};
@@ -103,24 +103,34 @@ fn push_stop(marks: &mut Vec<Mark>, cpu: u8, before: bool, after: bool) -> Resul
     )
 }
 
-fn lane_at(lanes: &[Lane], at: usize) -> Option<Lane>
-    ensures { result ≡ slice_get lanes.now at }
+// Whether a processor still runs the same task on the same stage, or none.
+#[inline(always)]
+fn same_runs(before: Option<Running>, after: Option<Running>) -> bool
+    ensures { (c : ℕ) → result ≡ true → running_marks c before after ≡ [] }
 {
-    lanes.get(at).copied()
+    match after {
+        None => before.is_none(),
+        Some(now) => same_running(before, now),
+    }
 }
 
-#[tactic(auto, unfolding(crate::specs::Marks::lane_marks), using(crate::proofs::Lemmas::numbered))]
-fn push_lane(
-    marks: &mut Vec<Mark>,
-    cpu: u8,
-    before: Option<Lane>,
-    after: Option<Lane>,
-) -> Result<(), Refused>
-    ensures { OnOk result (marks.new.items ≡ marks.old.items ++ (lane_marks cpu before after)) }
+// Whether nothing of a processor is another.
+#[inline(always)]
+#[tactic(auto, unfolding(crate::specs::Marks::lane_marks))]
+fn same_lane(before: &Lane, after: &Lane) -> bool
+    ensures { (c : ℕ) → result ≡ true → lane_marks c (Option.Some before.now) (Option.Some after.now) ≡ [] }
 {
-    let (Some(before), Some(after)) = (before, after) else {
-        return Ok(());
-    };
+    same_bit(before.stopped, after.stopped)
+        && same_bit(before.oob_stalled, after.oob_stalled)
+        && same_bit(before.in_band_stalled, after.in_band_stalled)
+        && same_runs(before.running, after.running)
+}
+
+#[inline(never)]
+#[tactic(auto, unfolding(crate::specs::Marks::lane_marks), using(crate::proofs::Lemmas::numbered))]
+fn push_turn(marks: &mut Vec<Mark>, cpu: u8, before: &Lane, after: &Lane) -> Result<(), Refused>
+    ensures { OnOk result (marks.new.items ≡ marks.old.items ++ (lane_marks cpu (Option.Some before.now) (Option.Some after.now))) }
+{
     push_running(marks, cpu, before.running, after.running)?;
     push_stall(
         marks,
@@ -139,6 +149,49 @@ fn push_lane(
     push_stop(marks, cpu, before.stopped, after.stopped)
 }
 
+// Most processors have no mark.
+#[inline(always)]
+#[tactic(auto, using(crate::proofs::Lemmas::numbered))]
+fn push_turned(marks: &mut Vec<Mark>, cpu: u8, before: &Lane, after: &Lane) -> Result<(), Refused>
+    ensures { OnOk result (marks.new.items ≡ marks.old.items ++ (lane_marks cpu (Option.Some before.now) (Option.Some after.now))) }
+{
+    if same_lane(before, after) {
+        Ok(())
+    } else {
+        push_turn(marks, cpu, before, after)
+    }
+}
+
+#[inline(always)]
+#[tactic(auto, unfolding(crate::specs::Marks::lane_marks), using(crate::proofs::Lemmas::numbered))]
+fn push_lane(
+    marks: &mut Vec<Mark>,
+    cpu: u8,
+    before: Option<&Lane>,
+    after: Option<&Lane>,
+) -> Result<(), Refused>
+    ensures { OnOk result (marks.new.items ≡ marks.old.items ++ (lane_marks cpu (option_copied before.entry) (option_copied after.entry))) }
+{
+    match (before, after) {
+        (Some(before), Some(after)) => push_turned(marks, cpu, before, after),
+        _ => Ok(()),
+    }
+}
+
+#[inline(always)]
+#[tactic(auto, using(crate::proofs::Lemmas::numbered))]
+fn push_lane_at(
+    marks: &mut Vec<Mark>,
+    cpu: u8,
+    before: &[Lane],
+    after: &[Lane],
+) -> Result<(), Refused>
+    ensures { OnOk result (marks.new.items ≡ marks.old.items ++ (lane_marks cpu (slice_get before.now cpu) (slice_get after.now cpu))) }
+{
+    let at = usize::from(cpu);
+    push_lane(marks, cpu, before.get(at), after.get(at))
+}
+
 #[tactic(auto, unfolding(crate::specs::Marks::processor_marks), using(crate::proofs::Lemmas::numbered))]
 fn push_processor<D: Device>(
     marks: &mut Vec<Mark>,
@@ -152,13 +205,7 @@ fn push_processor<D: Device>(
     requires { cpu < PROCESSORS }
     ensures { (was : Parts) → IsTallyUpTo cpu tally.old.rows was machine.now.board.parts → IsWithinReach reach.now was machine.now.board.parts → OnOk result ((marks.new.items ≡ marks.old.items ++ processor_marks before.now after.now was machine.now.board.parts cpu) × IsTallyUpTo (cpu + 1) tally.new.rows was machine.now.board.parts) }
 {
-    let at = usize::from(cpu);
-    push_lane(
-        marks,
-        cpu,
-        lane_at(before.lanes.as_slice(), at),
-        lane_at(after.lanes.as_slice(), at),
-    )?;
+    push_lane_at(marks, cpu, before.lanes.as_slice(), after.lanes.as_slice())?;
     push_pipe(marks, cpu, tally, machine, reach)
 }
 

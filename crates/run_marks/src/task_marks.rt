@@ -1,12 +1,12 @@
 //! The marks of one task.
 
-ghost use Rattle.std.specs.Prelude.{◌≡◌, ◌++◌, OnOk, option_copied, slice_get};
+ghost use Rattle.std.specs.Prelude.{◌≡◌, ◌++◌, ℕ, [], OnOk, option_copied, slice_get, true};
 ghost use Rattle.run_marks.specs.Lists.{below};
 ghost use Rattle.run_marks.specs.Marks.{change_marks, deadline_marks, end_marks, has_ended, is_wait, migrates_marks, moves_marks, one_task_marks, rank_marks, equal_waits, task_stage, task_marks, wait_of, wait_stage, waits_marks, woken_marks};
 
 use crate::mark::Mark;
 use crate::marking::{push_when, same_stage};
-use crate::observation::Observation;
+use crate::observation::{Observation, put};
 use evm_model::{Stage, Task, TaskState, Wait};
 use evm_room::Refused;
 
@@ -175,6 +175,7 @@ fn push_end(
     }
 }
 
+#[inline(never)]
 #[tactic(auto, using(crate::proofs::Lemmas::numbered))]
 fn push_changes(
     marks: &mut Vec<Mark>,
@@ -198,6 +199,34 @@ fn push_changes(
     push_end(marks, task, before.state, after.state)
 }
 
+// Whether nothing of a task is another that has a mark.
+#[inline(always)]
+#[tactic(auto, using(crate::proofs::Unchanged::no_change))]
+fn same_task(before: &Task, after: &Task) -> bool
+    ensures { (t ticks : ℕ) → result ≡ true → change_marks t ticks before.now after.now ≡ [] }
+{
+    before.cpu == after.cpu && before.deadline == after.deadline && before.state == after.state
+}
+
+// Most tasks have no mark.
+#[inline(always)]
+#[tactic(auto, using(crate::proofs::Lemmas::numbered))]
+fn push_changed(
+    marks: &mut Vec<Mark>,
+    task: u8,
+    ticks: u64,
+    before: &Task,
+    after: &Task,
+) -> Result<(), Refused>
+    ensures { OnOk result (marks.new.items ≡ marks.old.items ++ (change_marks task ticks before.now after.now)) }
+{
+    if same_task(before, after) {
+        Ok(())
+    } else {
+        push_changes(marks, task, ticks, before, after)
+    }
+}
+
 #[tactic(auto, unfolding(crate::specs::Marks::task_marks), using(crate::proofs::Lemmas::numbered))]
 fn push_task(
     marks: &mut Vec<Mark>,
@@ -210,7 +239,7 @@ fn push_task(
 {
     match (before, after) {
         (None, Some(_)) => push_when(marks, true, Mark::Created { task }),
-        (Some(before), Some(after)) => push_changes(marks, task, ticks, before, after),
+        (Some(before), Some(after)) => push_changed(marks, task, ticks, before, after),
         _ => Ok(()),
     }
 }
@@ -239,7 +268,7 @@ fn push_rank(
     ensures { OnOk result (marks.new.items ≡ marks.old.items ++ (rank_marks task before after)) }
 {
     match (before, after) {
-        (Some(from), Some(to)) => push_when(marks, from != to, Mark::Rank { task, from, to }),
+        (Some(from), Some(to)) if from != to => put(marks, Mark::Rank { task, from, to }),
         _ => Ok(()),
     }
 }

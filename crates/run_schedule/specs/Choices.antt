@@ -1,8 +1,8 @@
 -- What comes next in a run.
 use Rattle.evm_model.specs.State.{State}
 use Rattle.run_schedule.specs.Endings.{HasEndedSo}
-use Rattle.run_schedule.specs.declared.course.Choice.{Choice}
-use Rattle.run_schedule.specs.declared.course.Choice.TheVariants.{Make, End}
+use Rattle.run_schedule.specs.declared.scheduler.Choice.{Choice}
+use Rattle.run_schedule.specs.declared.scheduler.Choice.TheVariants.{Make, End}
 
 -- a run that is to end has ended so
 abbrev pub IsChoice : Choice → State → Type 0

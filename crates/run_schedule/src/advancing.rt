@@ -42,10 +42,10 @@ pub(crate) fn advance(
 {
     let byte = byte_ahead(machine, event);
     match make(machine, event) {
-        Ok(answer) => match printer.take(byte, answer, machine) {
-            Ok(()) => Ok(ending_of(machine, event, answer)),
-            Err(NoMemory) => Err(NoMemory),
-        },
+        Ok(answer) => {
+            printer.take(byte, answer, machine)?;
+            Ok(ending_of(machine, event, answer))
+        }
         Err(refusal) => Ok(Some(RunEnd::Refused(refusal))),
     }
 }

@@ -2,15 +2,14 @@
 #![tactic(auto)]
 
 mod advancing;
-mod course;
 mod ending;
 mod looking;
 mod printing;
 mod random;
 mod running;
+mod scheduler;
 mod scripting;
 
-pub use course::{Beat, RunPlan};
 pub use ending::RunEnd;
 pub use evm_core::{Boot, Machine};
 pub use evm_devs::AnyDevice;
@@ -19,4 +18,5 @@ pub use evm_ram::SIZE_LIMIT;
 pub use hunt_schedules::BeginFault;
 pub use looking::{all_exited, is_deadlocked};
 pub use running::{FinishedRun, RunFault, run};
+pub use scheduler::{Beat, RunPlan};
 pub use scripting::{LineStop, ScriptFault, run_scripted};

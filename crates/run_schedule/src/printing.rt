@@ -123,10 +123,8 @@ impl Printer {
             return Err(NoMemory);
         };
         self.is_open = byte != b'\n';
-        match self.text.push(byte) {
-            Ok(()) => Ok(()),
-            Err(_) => Err(NoMemory),
-        }
+        self.text.push_reserved(byte);
+        Ok(())
     }
 
     // The byte of a call whose event has answered.
@@ -152,13 +150,9 @@ impl Printer {
         let Some(next) = self.device.checked_add(1) else {
             return Err(NoMemory);
         };
-        match self.push((word % 256) as u8) {
-            Ok(()) => {
-                self.device = next;
-                Ok(())
-            }
-            Err(NoMemory) => Err(NoMemory),
-        }
+        self.push((word % 256) as u8)?;
+        self.device = next;
+        Ok(())
     }
 
     /// What an event has put that has answered: the byte of a call, and the next word of the device.
@@ -170,10 +164,8 @@ impl Printer {
     ) -> Result<(), NoMemory>
         ensures { OnOk result (self.new ≡ device_printed machine.now (more_printed (if_ran answer (byte_of byte)) self.old)) }
     {
-        match self.take_call(byte, answer) {
-            Ok(()) => self.take_device(machine),
-            Err(NoMemory) => Err(NoMemory),
-        }
+        self.take_call(byte, answer)?;
+        self.take_device(machine)
     }
 
     /// Tells what is not yet told.
@@ -181,12 +173,8 @@ impl Printer {
         ensures took { OnOk result (Took W.takes output.old self.old.text output.new) }
         ensures told { OnOk result (self.new ≡ record self.old { text = [] }) }
     {
-        match write_all(output, &self.text) {
-            Ok(()) => {
-                self.text.clear();
-                Ok(())
-            }
-            Err(fault) => Err(fault),
-        }
+        write_all(output, &self.text)?;
+        self.text.clear();
+        Ok(())
     }
 }

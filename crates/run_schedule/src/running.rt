@@ -7,9 +7,9 @@ ghost use Rattle.run_schedule.specs.Endings.{HasEndedSo};
 ghost use Rattle.run_schedule.specs.Runs.{HasRun, HasToldSome};
 
 use crate::advancing::advance;
-use crate::course::{Choice, Course, RunPlan};
 use crate::ending::{RunEnd, concluded};
 use crate::printing::Printer;
+use crate::scheduler::{Choice, RunPlan, Scheduler};
 use evm_core::{Boot, Machine};
 use evm_devs::AnyDevice;
 use evm_model::{Block, Event, Refusal};
@@ -72,7 +72,7 @@ pub(crate) fn tell_in_time<W: Sink>(
 // The next event, if the run has not ended: how it has, if it has.
 fn go_on<W: Sink>(
     machine: &mut Machine<AnyDevice>,
-    course: &mut Course<'_>,
+    scheduler: &mut Scheduler<'_>,
     printer: &mut Printer,
     output: &mut W,
 ) -> Result<Option<RunEnd>, RunFault>
@@ -80,7 +80,7 @@ fn go_on<W: Sink>(
     ensures grown { IfOk result (λ ended. HasGrown ended machine.old machine.new) }
     ensures telling { (start : W) (first : State) → HasToldSome W.takes start first machine.old output.old printer.old → OnOk result (HasToldSome W.takes start first machine.new output.new printer.new) }
 {
-    let event = match course.next(machine) {
+    let event = match scheduler.next(machine) {
         Choice::Make(event) => event.widen(),
         Choice::End(ending) => return Ok(Some(ending)),
     };
@@ -89,16 +89,14 @@ fn go_on<W: Sink>(
         Ok(Some(ending)) => return Ok(Some(ending)),
         Err(NoMemory) => return Err(RunFault::NoMemory),
     }
-    match tell_in_time(event, printer, output) {
-        Ok(()) => Ok(None),
-        Err(stop) => Err(stop),
-    }
+    tell_in_time(event, printer, output)?;
+    Ok(None)
 }
 
 // Goes on until the run has ended.
 fn go<W: Sink>(
     machine: &mut Machine<AnyDevice>,
-    course: &mut Course<'_>,
+    scheduler: &mut Scheduler<'_>,
     printer: &mut Printer,
     output: &mut W,
 ) -> Result<RunEnd, RunFault>
@@ -106,10 +104,8 @@ fn go<W: Sink>(
     ensures telling { (start : W) (first : State) → HasToldSome W.takes start first machine.old output.old printer.old → OnOk result (HasToldSome W.takes start first machine.new output.new printer.new) }
 {
     'events: for made in 0..machine.room() {
-        match go_on(machine, course, printer, output) {
-            Ok(None) => {}
-            Ok(Some(ending)) => return Ok(ending),
-            Err(stop) => return Err(stop),
+        if let Some(ending) = go_on(machine, scheduler, printer, output)? {
+            return Ok(ending);
         }
     }
     Ok(RunEnd::Refused(Refusal::Full))
@@ -135,11 +131,8 @@ pub fn run<W: Sink>(
         Err(fault) => return Err(RunFault::NoMachine(fault)),
     };
     let mut printer = Printer::new(alloc);
-    let mut course = Course::new(plan);
-    let ending = match go(&mut machine, &mut course, &mut printer, output) {
-        Ok(ending) => ending,
-        Err(stop) => return Err(stop),
-    };
+    let mut scheduler = Scheduler::new(plan);
+    let ending = go(&mut machine, &mut scheduler, &mut printer, output)?;
     let is_open = printer.is_open();
     match printer.tell(output) {
         Ok(()) => {

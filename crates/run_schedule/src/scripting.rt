@@ -164,10 +164,9 @@ impl ScriptRun {
                 return Err(ScriptFault::Line(number, LineStop::Refused(refusal)));
             }
         };
-        match write_all(views, text.as_bytes()) {
-            Ok(()) => Ok(()),
-            Err(fault) => Err(ScriptFault::Run(RunFault::WriteFailed(fault))),
-        }
+        write_all(views, text.as_bytes()).map_err(|fault| ScriptFault::Run(RunFault::WriteFailed(
+            fault,
+        )))
     }
 
     // What a line asks for.

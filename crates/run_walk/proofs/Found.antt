@@ -3,13 +3,15 @@ use Rattle.std.proofs.Common.{◌≡◌, ◌+◌, ◌*◌, ◌<◌, ◌≤◌, �
 use Rattle.std.proofs.lemmas.List.{length-drop, length-take}
 use Rattle.std.specs.Prelude.{◌-◌, cond, drop, is_ok, is_some, length, option_copied, option_map, take}
 use Rattle.evm_board.proofs.law_rules.Firsts.{first-none}
+use Rattle.evm_exec.specs.Does.{does}
 use Rattle.evm_exec.specs.Memory.{width_of_load}
 use Rattle.evm_exec.specs.declared.hart.Hart.{Hart}
 use Rattle.evm_exec.specs.declared.outcome.Effect.TheVariants.{Load, Store}
+use Rattle.evm_isa.specs.Decoded.{decoded, system_at}
 use Rattle.evm_isa.specs.declared.inst.LoadOp.{LoadOp}
 use Rattle.evm_model.specs.Ranks.{first, may_run_in_band, next_in_band, stamp}
 use Rattle.evm_model.specs.declared.task.Task.{Task}
-use Rattle.evm_quiet.specs.Quiet.{quiet_effect, quiet_load, quiet_store}
+use Rattle.evm_quiet.specs.Quiet.{quiet_effect, quiet_inst, quiet_load, quiet_store}
 use Rattle.evm_ram.specs.Bytes.{little_endian, low_bytes}
 use Rattle.evm_ram.specs.Laws.{cond_some, inside, length-low_bytes}
 use Rattle.evm_ram.specs.Ram.{bytes_at, is_inside, overwritten, poke_at, read_at, write_at}
@@ -17,6 +19,14 @@ use Rattle.evm_ram.specs.Width.{bytes_of}
 use Rattle.evm_ram.specs.declared.ram.TheConstants.{BASE}
 use Rattle.evm_ram.specs.declared.width.Width.{Width}
 use Rattle.evm_ram.specs.declared.width.Width.TheVariants.{Word}
+
+-- ---- a call is not quiet
+loud-ecall : (hart : Hart) (ram : List ℕ) → false ≡ is_ok (quiet_inst None (decoded 0x73) hart ram)
+unfolding decoded system_at does quiet_effect
+loud-ecall hart ram = refl
+
+pub loud_call : (word : ℕ) (hart : Hart) (ram : List ℕ) → word ≡ 0x73 → false ≡ is_ok (quiet_inst None (decoded word) hart ram)
+loud_call word hart ram is = rw is (loud-ecall hart ram)
 
 -- ---- RAM
 loads-if : (inside : Bool) (bytes : List ℕ) (op : LoadOp) (rd address : ℕ) (hart : Hart) (ram : List ℕ) → inside ≡ is_ok (quiet_load (option_map little_endian (cond inside (Some bytes) None)) op rd address hart ram)

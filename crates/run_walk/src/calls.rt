@@ -1,10 +1,12 @@
 //! The calls of a run: what a Step asked for, and how it was answered.
 
-use crate::item::Item;
+ghost use Rattle.std.specs.Prelude.{◌≡◌, IfSome, Option};
+ghost use Rattle.evm_model.specs.Current.{current};
+
 use evm_dev::Device;
 use evm_exec::Hart;
 use evm_journal::Machine;
-use evm_model::{Event, PROCESSOR_LIMIT, TaskState, Wait};
+use evm_model::{TaskState, Wait};
 use run_marks::{Mark, Observation, equal_waits};
 
 /// The registers of a call: its number, and its first argument, in whose place its answer comes.
@@ -13,7 +15,7 @@ const NUMBER: usize = 17;
 const ARGUMENT: usize = 10;
 
 /// The word of an ECALL.
-const ECALL: u32 = 0x73;
+pub(crate) const ECALL: u32 = 0x73;
 
 /// Answers from here on are numbers below 0: errnos.
 const NEGATIVE: u64 = 1 << 63;
@@ -23,12 +25,6 @@ const NEGATIVE: u64 = 1 << 63;
 pub struct Caller {
     pub task: u8,
     pub argument: u64,
-}
-
-/// The callers of a machine before its next event.
-#[derive(Clone, Copy)]
-pub struct Callers {
-    callers: [Option<Caller>; PROCESSOR_LIMIT],
 }
 
 /// How a call was answered by its Step.
@@ -50,39 +46,13 @@ pub struct MadeCall {
     pub outcome: Answered,
 }
 
-fn caller_of<D: Device>(machine: &Machine<D>, cpu: u8) -> Option<Caller> {
+/// The task that a processor runs, as it is before its next Step.
+pub(crate) fn caller_of<D: Device>(machine: &Machine<D>, cpu: u8) -> Option<Caller>
+    ensures { IfSome result (λ caller. current cpu machine.now.board.parts ≡ Option.Some caller.task) }
+{
     let task = machine.cpu(cpu)?.current?;
     let argument = machine.lent_hart(task)?.regs[ARGUMENT];
     Some(Caller { task, argument })
-}
-
-impl Callers {
-    /// Nothing is seen yet.
-    pub fn new() -> Callers {
-        Callers {
-            callers: [None; PROCESSOR_LIMIT],
-        }
-    }
-
-    /// Looks at a machine before its next event.
-    pub fn see<D: Device>(&mut self, machine: &Machine<D>) {
-        for cpu in 0..machine.cpu_count() {
-            if let Some(caller) = self.callers.get_mut(usize::from(cpu)) {
-                *caller = caller_of(machine, cpu);
-            }
-        }
-    }
-
-    /// The task whose Step an item is, as it was before.
-    pub fn of(&self, item: &Item) -> Option<Caller> {
-        let (Event::Step(cpu) | Event::StepI(cpu)) = item.event else {
-            return None;
-        };
-        match self.callers.get(usize::from(cpu)) {
-            Some(caller) => *caller,
-            None => None,
-        }
-    }
 }
 
 /// The word of memory at an address.

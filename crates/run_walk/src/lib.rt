@@ -9,7 +9,7 @@ mod observer;
 mod quiet;
 mod walk;
 
-pub use calls::{Answered, Caller, Callers, MadeCall, call_at, instruction_at, wasted};
+pub use calls::{Answered, Caller, MadeCall, call_at, instruction_at, wasted};
 pub use cursor::WalkStop;
 pub use evm_diagnostics::{
     Boot, Devices, Event, EventLine, InputFault, Journal, JournalFaultKind, Machine, read_history,

@@ -10,6 +10,7 @@ ghost use Rattle.evm_ram.specs.Width.{bytes_of};
 ghost use Rattle.evm_ram.specs.declared.width.Width.TheVariants as width;
 ghost use Rattle.run_walk.specs.Quiet.{StepOnlyRuns, StepsChangeNothing, is_unhindered, is_wire_clear, is_quiet, is_quiet_task, is_still, is_still_task};
 
+use crate::calls::ECALL;
 use evm_dev::Device;
 use evm_exec::{Effect, Hart, effect, load_width};
 use evm_isa::decode;
@@ -49,9 +50,14 @@ fn is_quiet_effect<D: Device>(machine: &Machine<D>, wanted: Effect) -> bool
     }
 }
 
+// Whether a word is a quiet instruction. Of those that aren't, most are calls.
+#[tactic(auto, using(crate::proofs::Found::loud_call))]
 fn is_quiet_word<D: Device>(machine: &Machine<D>, hart: &Hart, word: u32) -> bool
     ensures { result ≡ is_ok (quiet_inst Option.None (decoded word) hart.now machine.now.board.memory.ram) }
 {
+    if word == ECALL {
+        return false;
+    }
     match decode(word) {
         None => false,
         Some(inst) => is_quiet_effect(machine, effect(&inst, hart)),

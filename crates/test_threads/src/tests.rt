@@ -6,6 +6,7 @@ ghost use Rattle.evm_shared.specs.EventCounts.{kind_counts};
 
 mod bell;
 mod giving;
+mod journals;
 mod machines;
 mod meeting;
 mod rings;

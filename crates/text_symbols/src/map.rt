@@ -214,17 +214,11 @@ fn said_by(line: &str) -> Result<Said<'_>, &'static str> {
 }
 
 fn owned(alloc: Global, text: &str) -> Result<String, NoMemory> {
-    match text.to_string(alloc) {
-        Ok(text) => Ok(text),
-        Err(_) => Err(NoMemory),
-    }
+    text.to_string(alloc).map_err(|_| NoMemory)
 }
 
 fn push<T: Drop>(items: &mut Vec<T>, item: T) -> Result<(), NoMemory> {
-    match items.push(item) {
-        Ok(()) => Ok(()),
-        Err(_) => Err(NoMemory),
-    }
+    items.push(item).map_err(|_| NoMemory)
 }
 
 // How many bytes come before the zero that ends a name; none where another byte than those of printable characters is there.
@@ -288,14 +282,8 @@ impl Map {
     }
 
     fn read_line(&mut self, alloc: Global, number: u64, line: &str) -> Result<(), MapFault> {
-        let said = match said_by(line) {
-            Ok(said) => said,
-            Err(form) => return Err(MapFault::BadLine(number, form)),
-        };
-        match self.add(alloc, said) {
-            Ok(()) => Ok(()),
-            Err(NoMemory) => Err(MapFault::NoMemory),
-        }
+        let said = said_by(line).map_err(|form| MapFault::BadLine(number, form))?;
+        self.add(alloc, said).map_err(|_| MapFault::NoMemory)
     }
 
     /// Reads the text of a map.

@@ -33,6 +33,10 @@ fn with_value<'a>(arg: Arg<'a>, value: &Value) -> Arg<'a> {
         Value::Number(name, least, most) => arg
             .value_name(name)
             .value_parser(ValueParser::Unsigned(least, most)),
+        Value::Maybe(name, least, most) => arg
+            .value_name(name)
+            .num_args(0..=1)
+            .value_parser(ValueParser::Unsigned(least, most)),
         Value::Two(names, least, most) => arg
             .value_names(names)
             .num_args(2)

@@ -15,6 +15,8 @@ pub(crate) enum Value {
     Texts(&'static str),
     /// A number, between two others.
     Number(&'static str, u64, u64),
+    /// Nothing, or a number between two others.
+    Maybe(&'static str, u64, u64),
     /// Two numbers, between two others.
     Two(&'static [&'static str], u64, u64),
     /// A list of numbers between two others, by commas.
@@ -366,9 +368,21 @@ pub(crate) const HUNT: Word = Word {
         },
         Choice {
             name: "all",
-            value: Value::Number("B", 0, 16),
-            help: "Looks at every schedule with at most B switches",
+            value: Value::Maybe("B", 0, 16),
+            help: "Looks at every schedule with at most B switches; without B at every schedule",
             excludes: &["pct", "random", "seeds"],
+        },
+        Choice {
+            name: "ticks",
+            value: Value::Number("N", 0, 1_000_000),
+            help: "Ticks of a schedule at most, with --all without B [default: any number]",
+            excludes: &["runs"],
+        },
+        Choice {
+            name: "states",
+            value: Value::Number("N", 1, 100_000_000),
+            help: "States at most, with --all without B [default: 1000000]",
+            excludes: &["runs"],
         },
         Choice {
             name: "cpus",

@@ -5,12 +5,14 @@ use Rattle.std.specs.Prelude.{OnOk, Option, Some, None, Result, Ok, Err}
 use Rattle.text_markup.specs.Text.{text}
 use Rattle.evm_ram.specs.Images.{Contents}
 use Rattle.evm_model.specs.Devices.{Attached}
+use Rattle.run_marks.specs.declared.mark.Mark.{Mark}
+use Rattle.run_walk.specs.declared.item.Item.{Item}
 use Rattle.run_walk.specs.Walks.{Follows, IsBegin, IsNext, Walked, place}
 use Rattle.view_page.specs.Rows.{row_json}
 use Rattle.view_page.specs.Texts.{IsSafe}
 use Rattle.view_page.proofs.Loops.{flat-append}
 use Rattle.view_page.proofs.Safe.{safe-append, safe-row}
-use Rattle.view_page.specs.Entries.{Entry, entries_text, entry_numbers, entry_text}
+use Rattle.view_page.specs.Entries.{Entry, entries_text, entry_numbers, entry_text, head_numbers, mark_numbers}
 use Rattle.view_page.specs.Pages.{AddsRun, IsToldRun, TellsEntries, TellsAll, TellsNext}
 use Rattle.view_page.specs.Texts.{run_text}
 
@@ -35,6 +37,12 @@ safe-run start entries = (
   safe-append (text (row_json start)) (flat_map entry_text entries ++ (93 ∷ [])) (safe-row start)
       (safe-append (flat_map entry_text entries) (93 ∷ []) (safe-entries entries) (differs 93 (omega arith), tt)),
 )
+
+-- ---- an entry: its item and its marks, and its details behind them
+pub entry-parts : (item : Item) (marks : List Mark) (details : List ℕ)
+    → 44 ∷ 10 ∷ text (row_json ((head_numbers item ++ flat_map mark_numbers marks) ++ details)) ≡ entry_text (record { item = item; marks = marks; details = details })
+unfolding entry_text entry_numbers
+entry-parts item marks details = ap (λ (ns : List ℕ). 44 ∷ 10 ∷ text (row_json ns)) (append_assoc (head_numbers item) (flat_map mark_numbers marks) details)
 
 -- ---- one entry more
 pub tells-more : (walk mid to : Walked) (entries : List Entry) (entry : Entry) → TellsEntries walk entries mid → TellsNext mid entry to → TellsEntries walk (entries ++ (entry ∷ [])) to

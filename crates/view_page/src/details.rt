@@ -10,7 +10,7 @@ use evm_exec::Hart;
 use evm_model::{Class, Stage, TIMER_LIMIT, TaskState, Timer};
 use evm_room::Refused;
 use run_marks::{Mark, Observation};
-use run_walk::{Answered, Caller, Callers, Item, Machine, MadeCall, Walk, call_at, instruction_at};
+use run_walk::{Answered, Caller, Item, Machine, MadeCall, Walk, call_at, instruction_at};
 
 /// The devices: where their registers begin, and how many bytes each device has.
 const DEVICES: u64 = 0x1000_0000;
@@ -39,7 +39,8 @@ fn field(word: u32, place: u32) -> u32
 /// What is known of a machine before the next event.
 #[derive(Clone, Copy)]
 pub(crate) struct Known {
-    pub(crate) callers: Callers,
+    /// The task that makes its Step.
+    pub(crate) caller: Option<Caller>,
     timers: [Option<Timer>; TIMER_LIMIT],
 }
 
@@ -47,7 +48,7 @@ impl Known {
     /// Nothing is known.
     pub(crate) fn new() -> Known {
         Known {
-            callers: Callers::new(),
+            caller: None,
             timers: [None; TIMER_LIMIT],
         }
     }
@@ -297,7 +298,7 @@ fn put_step<D: Device>(
     known: &Known,
     item: &Item,
 ) -> Result<(), Refused> {
-    match (known.callers.of(item), item.pc) {
+    match (known.caller, item.pc) {
         (Some(caller), Some(pc)) => put_instruction(row, machine, observation, caller, pc),
         _ => Ok(()),
     }

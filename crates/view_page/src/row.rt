@@ -1,6 +1,6 @@
 //! Rows of numbers, and texts without `<`.
 
-ghost use Rattle.std.specs.Prelude.{◌≡◌, ◌<◌, ◌≤◌, ◌++◌, ◌∷◌, [], false, true, OnOk};
+ghost use Rattle.std.specs.Prelude.{◌≡◌, ◌<◌, ◌≤◌, ◌++◌, ◌∷◌, ◌/◌, ◌%◌, [], false, true, OnOk};
 ghost use Rattle.std.specs.String.{string_bytes};
 ghost use Rattle.text_markup.specs.Text.{items_text, text};
 ghost use Rattle.evm_text.specs.Appending.{Appends};
@@ -35,54 +35,62 @@ fn push_piece(out: &mut String, piece: &str) -> Result<(), Refused>
     }
 }
 
-// A digit behind a comma.
-fn first_digit(digit: u64) -> &'static str
-    requires { digit < 10 }
-    ensures { result.now ≡ 44 ∷ character digit ∷ [] }
-{
-    match digit {
-        0 => ",0",
-        1 => ",1",
-        2 => ",2",
-        3 => ",3",
-        4 => ",4",
-        5 => ",5",
-        6 => ",6",
-        7 => ",7",
-        8 => ",8",
-        _ => ",9",
-    }
-}
-
-fn next_digit(digit: u64) -> &'static str
-    requires { digit < 10 }
-    ensures { result.now ≡ character digit ∷ [] }
-{
-    match digit {
-        0 => "0",
-        1 => "1",
-        2 => "2",
-        3 => "3",
-        4 => "4",
-        5 => "5",
-        6 => "6",
-        7 => "7",
-        8 => "8",
-        _ => "9",
-    }
-}
-
-// Appends a comma and a number. Most are short.
+// Appends a digit.
+#[inline(always)]
 #[tactic(auto, using(evm_text::proofs::Steps::numeral_one))]
+fn push_digit(out: &mut String, digit: u64) -> Result<(), Refused>
+    requires { digit < 10 }
+    ensures { Appends (character digit ∷ []) out.old out.new result }
+{
+    push_decimal(out, digit)
+}
+
+// Appends the two digits of a number.
+#[inline(always)]
+fn push_digits(out: &mut String, number: u64) -> Result<(), Refused>
+    requires { number < 100 }
+    ensures { Appends (character (number / 10) ∷ character (number % 10) ∷ []) out.old out.new result }
+{
+    push_digit(out, number / 10)?;
+    push_digit(out, number % 10)
+}
+
+// Appends a number, two digits at a time.
+#[inline(never)]
+#[tactic(auto, using(evm_text::proofs::Steps::numeral_one))]
+fn push_long(out: &mut String, number: u64) -> Result<(), Refused>
+    ensures { Appends (decimal number) out.old out.new result }
+{
+    if number < 10 {
+        return push_digit(out, number);
+    }
+    if number < 100 {
+        return push_digits(out, number);
+    }
+    push_long(out, number / 100)?;
+    push_digits(out, number % 100)
+}
+
+// Appends a number. Most are short.
+#[inline(always)]
+#[tactic(auto, using(evm_text::proofs::Steps::numeral_one))]
+fn push_number(out: &mut String, number: u64) -> Result<(), Refused>
+    ensures { Appends (decimal number) out.old out.new result }
+{
+    if number < 10 {
+        push_digit(out, number)
+    } else {
+        push_long(out, number)
+    }
+}
+
+// Appends a comma and a number.
+#[inline(always)]
 fn push_item(out: &mut String, number: u64) -> Result<(), Refused>
     ensures { Appends (44 ∷ decimal number) out.old out.new result }
 {
-    if number < 10 {
-        push_piece(out, first_digit(number))
-    } else {
-        push_item(out, number / 10)?;
-        push_piece(out, next_digit(number % 10))
-    }
+    push_piece(out, ",")?;
+    push_number(out, number)
 }
 
 // Appends the numbers of a row behind its first, and its end.
@@ -96,6 +104,17 @@ fn push_rest(out: &mut String, numbers: &[u64]) -> Result<(), Refused>
     push_rest(out, rest)
 }
 
+// Appends numbers of a row behind its first, those behind them, and its end.
+fn push_both(out: &mut String, numbers: &[u64], more: &[u64]) -> Result<(), Refused>
+    ensures { Appends (items_text true (row_items (numbers.now ++ more.now))) out.old out.new result }
+{
+    let [first, rest @ ..] = numbers else {
+        return push_rest(out, more);
+    };
+    push_item(out, *first)?;
+    push_both(out, rest, more)
+}
+
 // Appends the numbers of a row, and its end.
 fn push_numbers(out: &mut String, numbers: &[u64]) -> Result<(), Refused>
     ensures { Appends (items_text false (row_items numbers.now)) out.old out.new result }
@@ -103,8 +122,19 @@ fn push_numbers(out: &mut String, numbers: &[u64]) -> Result<(), Refused>
     let [first, rest @ ..] = numbers else {
         return push_piece(out, "]");
     };
-    push_decimal(out, *first)?;
+    push_number(out, *first)?;
     push_rest(out, rest)
+}
+
+// Appends the numbers of a row, those behind them, and its end.
+fn push_parts(out: &mut String, numbers: &[u64], more: &[u64]) -> Result<(), Refused>
+    ensures { Appends (items_text false (row_items (numbers.now ++ more.now))) out.old out.new result }
+{
+    let [first, rest @ ..] = numbers else {
+        return push_numbers(out, more);
+    };
+    push_number(out, *first)?;
+    push_both(out, rest, more)
 }
 
 /// Appends a row of numbers as JSON.
@@ -115,12 +145,12 @@ pub(crate) fn push_row(out: &mut String, numbers: &[u64]) -> Result<(), Refused>
     push_numbers(out, numbers)
 }
 
-/// Appends a row on a line of its own, behind a comma.
-pub(crate) fn push_line(out: &mut String, numbers: &[u64]) -> Result<(), Refused>
-    ensures { Appends (44 ∷ 10 ∷ text (row_json numbers.now)) out.old out.new result }
+/// Appends a row of numbers, and of more behind them, on a line of its own, behind a comma.
+pub(crate) fn push_line(out: &mut String, numbers: &[u64], more: &[u64]) -> Result<(), Refused>
+    ensures { Appends (44 ∷ 10 ∷ text (row_json (numbers.now ++ more.now))) out.old out.new result }
 {
     push_piece(out, ",\n[")?;
-    push_numbers(out, numbers)
+    push_parts(out, numbers, more)
 }
 
 // Appends a printable character.

@@ -4,7 +4,7 @@ ghost use Rattle.std.specs.Prelude.{◌≡◌, ◌++◌, ◌∷◌, OnOk, ℕ, L
 ghost use Rattle.std.specs.String.{string_bytes};
 ghost use Rattle.text_markup.specs.Text.{text};
 ghost use Rattle.run_walk.specs.Walks.{Walked};
-ghost use Rattle.view_page.specs.Entries.{Entry, entries_text, entry_numbers, entry_text};
+ghost use Rattle.view_page.specs.Entries.{Entry, entries_text, entry_text, head_numbers, mark_numbers};
 ghost use Rattle.view_page.specs.Rows.{row_json};
 ghost use Rattle.view_page.specs.Pages.{TellsAll};
 
@@ -55,23 +55,15 @@ fn put_start<D: Device>(
     put_running(row, observation)
 }
 
-// The row of an item, with its marks and its details.
-#[tactic(auto, unfolding(crate::specs::Entries::entry_numbers))]
-fn put_entry(
-    row: &mut Vec<u64>,
-    item: &Item,
-    marks: &[Mark],
-    details: &[u64],
-) -> Result<(), Refused>
-    ensures { OnOk result (row.new.items ≡ row.old.items ++ entry_numbers (record { item = item.now; marks = marks.now; details = details.now })) }
+// The row of an item and its marks.
+fn put_item(row: &mut Vec<u64>, item: &Item, marks: &[Mark]) -> Result<(), Refused>
+    ensures { OnOk result (row.new.items ≡ row.old.items ++ (head_numbers item.now ++ flat_map mark_numbers marks.now)) }
 {
     put_head(row, item)?;
-    put_marks(row, marks)?;
-    put(row, details)
+    put_marks(row, marks)
 }
 
 // Appends an entry.
-#[tactic(auto, unfolding(crate::specs::Entries::entry_text))]
 fn push_entry(
     out: &mut String,
     row: &mut Vec<u64>,
@@ -82,8 +74,8 @@ fn push_entry(
     ensures { OnOk result (string_bytes out.new ≡ string_bytes out.old ++ entry_text (record { item = item.now; marks = marks.now; details = details.now })) }
 {
     row.clear();
-    put_entry(row, item, marks, details)?;
-    push_line(out, row.as_slice())
+    put_item(row, item, marks)?;
+    push_line(out, row.as_slice(), details)
 }
 
 // Appends the row of the start.
@@ -113,7 +105,7 @@ fn push_entries<D: Device, M: Meter>(
     let mut details = Vec::new(alloc);
     let mut known = Known::new();
     for _item in walk.next_event()..walk.event_count() {
-        known.callers.see(walk.machine());
+        known.caller = walk.next_caller();
         let Some(item) = walk.next(&mut found)? else {
             break;
         };

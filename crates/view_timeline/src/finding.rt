@@ -6,7 +6,7 @@ use crate::places::Naming;
 use crate::words::push_deed;
 use evm_dev::Device;
 use evm_room::Refused;
-use run_walk::{Callers, Event, Item, Walk, WalkStop};
+use run_walk::{Event, Item, Walk, WalkStop};
 use std::alloc::Global;
 
 /// What an event is found by.
@@ -67,13 +67,12 @@ pub fn find<D: Device>(
     };
     let mut found = Vec::new(alloc);
     let mut shown = Vec::new(alloc);
-    let mut callers = Callers::new();
     for _ in walk.next_event()..walk.event_count() {
-        callers.see(walk.machine());
+        let caller = walk.next_caller();
         let Some(item) = walk.next(&mut found)? else {
             break;
         };
-        show_all(&mut shown, found.as_slice(), &item, walk, &callers)?;
+        show_all(&mut shown, found.as_slice(), &item, walk, caller)?;
         let ticks = walk.machine().ticks();
         if search.finds(&item, ticks, shown.as_slice())? {
             return Ok(Some(item.first));

@@ -11,7 +11,7 @@ use evm_model::{MUTEX_LIMIT, PROCESSOR_LIMIT, TaskState, Wait};
 use evm_room::{Refused, grow};
 use evm_streams::Meter;
 use run_marks::{Mark, Observation};
-use run_walk::{Callers, Item, Machine, Walk, WalkStop, actor_of, call_at, wasted};
+use run_walk::{Caller, Item, Machine, Walk, WalkStop, actor_of, call_at, wasted};
 use std::alloc::Global;
 
 /// Which events are drawn: those from the first number on, and below the last.
@@ -135,13 +135,13 @@ fn show(
 
 // The put, signal or post of an item that woke no task.
 fn wasted_by<D: Device>(
-    callers: &Callers,
+    caller: Option<Caller>,
     item: &Item,
     machine: &Machine<D>,
     observation: &Observation,
     found: &[Mark],
 ) -> Option<Shown> {
-    let caller = callers.of(item)?;
+    let caller = caller?;
     let call = call_at(machine, observation, caller, item.pc?)?;
     let object = wasted(&call, found)?;
     Some(Shown {
@@ -159,10 +159,10 @@ pub(crate) fn show_all<D: Device>(
     found: &[Mark],
     item: &Item,
     walk: &Walk<D>,
-    callers: &Callers,
+    caller: Option<Caller>,
 ) -> Result<(), Refused> {
     show(shown, found, item, walk.observation())?;
-    match wasted_by(callers, item, walk.machine(), walk.observation(), found) {
+    match wasted_by(caller, item, walk.machine(), walk.observation(), found) {
         None => Ok(()),
         Some(one) => {
             grow(shown, 1)?;
@@ -210,7 +210,6 @@ pub fn gather<D: Device, M: Meter>(
     let mut timeline = Timeline::new(alloc, cpu_count);
     let mut found = Vec::new(alloc);
     let mut shown = Vec::new(alloc);
-    let mut callers = Callers::new();
     let first = walk.next_event();
     for _event in first..window.to {
         let left = window.to.saturating_sub(walk.next_event());
@@ -218,11 +217,11 @@ pub fn gather<D: Device, M: Meter>(
             break;
         }
         let seen = seen_of(walk.observation());
-        callers.see(walk.machine());
+        let caller = walk.next_caller();
         let Some(item) = walk.next_within(left, &mut found)? else {
             break;
         };
-        show_all(&mut shown, found.as_slice(), &item, walk, &callers)?;
+        show_all(&mut shown, found.as_slice(), &item, walk, caller)?;
         timeline.add(alloc, &item, &seen, shown.as_slice())?;
         meter.passed(walk.next_event());
     }

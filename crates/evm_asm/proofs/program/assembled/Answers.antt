@@ -7,5 +7,5 @@ use Rattle.evm_asm.proofs.program.assembled.Goals as goal
 
 pub finished-requires : goal.finished-requires
 finished-requires c =
-    meant_fits c.as_bytes-source.result.now c.in-Ok-meaning.items.items (view c.in-Ok-spell.out) c.in-Ok-meaning.ensures
-    (ap (λ (items : List Placed). spelled items nothing_spelled) (sym c.as_slice.ensures.value) ∙ c.in-Ok-spell.ensures)
+    meant_fits c.as_bytes-source.result.now c.in_ok-items.items.items (view c.in_ok-out.out) c.in_ok-items.ensures
+    (ap (λ (items : List Placed). spelled items nothing_spelled) (sym c.as_slice.ensures.value) ∙ c.in_ok-out.ensures)

@@ -16,10 +16,10 @@ lines-init g c = record { report = Written-start _ _ _ _; noted = Noted-start _ 
 
 pub lines-preserved : goal.lines-preserved
 lines-preserved g c =
-    let goes : line_outcome c.args.options c.lines.number c.lines.machine (line_at c.in-Some.line.now) ≡ Goes (string_bytes c.run_line.new.text) c.run_line.new.machine = search (rules, c.run_line.ensures.outcome c.args.options.devices c.lines.invariant.held) in
+    let goes : line_outcome c.args.options c.lines.number c.lines.run.machine (line_at c.in-Some.line.now) ≡ Goes (string_bytes c.run_line.new.text) c.run_line.new.run.machine = search (rules, c.run_line.ensures.outcome c.args.options.devices c.lines.invariant.held) in
     let cut : CutsLine c.lines.rest.now c.in-Some.line.now c.in-Some.after.now = search rules in
     let written : Took g.W.Sink.takes c.lines.writer (string_bytes c.run_line.new.text) c.write_all.new.sink = search rules in
-    let noted : note_places c.args.name.now c.lines.number (noted_at c.lines.machine (line_at c.in-Some.line.now)) ≡ note_places c.args.name.now c.lines.number c.in-Ok-Goes.note = search rules in
+    let noted : note_places c.args.script.now.name.now c.lines.number (noted_at c.lines.run.machine (line_at c.in-Some.line.now)) ≡ note_places c.args.script.now.name.now c.lines.number c.in-Ok-Goes.note = search rules in
     record {
       report = Written-goes _ _ _ _ _ _ _ _ _ _ _ _ _ c.lines.invariant.report cut goes written;
       noted = Noted-goes _ _ _ _ _ _ _ _ _ _ _ _ _ _ _ c.lines.invariant.noted cut goes noted c.report_note.ensures;
@@ -29,16 +29,16 @@ lines-preserved g c =
 
 pub returns-in-Err-write_all-clause-report : goal.returns-in-Err-write_all-clause-report
 returns-in-Err-write_all-clause-report g c =
-    let goes : line_outcome c.args.options c.lines.number c.lines.machine (line_at c.in-Some.line.now) ≡ Goes (string_bytes c.run_line.new.text) c.run_line.new.machine = search (rules, c.run_line.ensures.outcome c.args.options.devices c.lines.invariant.held) in
+    let goes : line_outcome c.args.options c.lines.number c.lines.run.machine (line_at c.in-Some.line.now) ≡ Goes (string_bytes c.run_line.new.text) c.run_line.new.run.machine = search (rules, c.run_line.ensures.outcome c.args.options.devices c.lines.invariant.held) in
     let cut : CutsLine c.lines.rest.now c.in-Some.line.now c.in-Some.after.now = search rules in
     let written : TookPrefix g.W.Sink.takes c.lines.writer (string_bytes c.run_line.new.text) c.write_all.new.sink = search rules in
     Written-goes_fault _ _ _ _ _ _ _ _ _ _ _ _ _ c.lines.invariant.report cut goes written
 
 pub returns-in-Err-write_all-clause-noted : goal.returns-in-Err-write_all-clause-noted
 returns-in-Err-write_all-clause-noted g c =
-    let goes : line_outcome c.args.options c.lines.number c.lines.machine (line_at c.in-Some.line.now) ≡ Goes (string_bytes c.run_line.new.text) c.run_line.new.machine = search (rules, c.run_line.ensures.outcome c.args.options.devices c.lines.invariant.held) in
+    let goes : line_outcome c.args.options c.lines.number c.lines.run.machine (line_at c.in-Some.line.now) ≡ Goes (string_bytes c.run_line.new.text) c.run_line.new.run.machine = search (rules, c.run_line.ensures.outcome c.args.options.devices c.lines.invariant.held) in
     let cut : CutsLine c.lines.rest.now c.in-Some.line.now c.in-Some.after.now = search rules in
-    let noted : note_places c.args.name.now c.lines.number (noted_at c.lines.machine (line_at c.in-Some.line.now)) ≡ note_places c.args.name.now c.lines.number c.in-Ok-Goes.note = search rules in
+    let noted : note_places c.args.script.now.name.now c.lines.number (noted_at c.lines.run.machine (line_at c.in-Some.line.now)) ≡ note_places c.args.script.now.name.now c.lines.number c.in-Ok-Goes.note = search rules in
     Noted-some _ _ _ _ _ _ _ _ _ (Noted-goes _ _ _ _ _ _ _ _ _ _ _ _ _ _ _ c.lines.invariant.noted cut goes noted c.report_note.ensures)
 
 pub returns-in-Err-clause-report : goal.returns-in-Err-clause-report
@@ -55,7 +55,7 @@ returns-clause-noted g c = Noted-done _ _ _ _ _ _ _ _ _ _ c.lines.invariant.note
 
 pub returns-in-Ok-Ends-clause-report : goal.returns-in-Ok-Ends-clause-report
 returns-in-Ok-Ends-clause-report g c =
-    let ends : line_outcome c.args.options c.lines.number c.lines.machine (line_at c.in-Some.line.now) ≡ Ends c.in-Ok-Ends.fault = search (rules, c.run_line.ensures.outcome c.args.options.devices c.lines.invariant.held) in
+    let ends : line_outcome c.args.options c.lines.number c.lines.run.machine (line_at c.in-Some.line.now) ≡ Ends c.in-Ok-Ends.fault = search (rules, c.run_line.ensures.outcome c.args.options.devices c.lines.invariant.held) in
     let cut : CutsLine c.lines.rest.now c.in-Some.line.now c.in-Some.after.now = search rules in
     plays_ended _ _ _ _ _ _ _ _ (Written-ended _ _ _ _ _ _ _ _ _ _ _ _ c.lines.invariant.report cut ends) (Written-ended_fault _ _ _ _ _ _ _ _ _ _ _ _ c.lines.invariant.report cut ends)
     (Written-ended_in _ _ _ _ _ _ _ _ _ _ _ c.lines.invariant.report cut ends)
@@ -63,7 +63,7 @@ returns-in-Ok-Ends-clause-report g c =
 
 pub returns-in-Ok-Ends-clause-noted : goal.returns-in-Ok-Ends-clause-noted
 returns-in-Ok-Ends-clause-noted g c =
-    let ends : line_outcome c.args.options c.lines.number c.lines.machine (line_at c.in-Some.line.now) ≡ Ends c.in-Ok-Ends.fault = search (rules, c.run_line.ensures.outcome c.args.options.devices c.lines.invariant.held) in
+    let ends : line_outcome c.args.options c.lines.number c.lines.run.machine (line_at c.in-Some.line.now) ≡ Ends c.in-Ok-Ends.fault = search (rules, c.run_line.ensures.outcome c.args.options.devices c.lines.invariant.held) in
     let cut : CutsLine c.lines.rest.now c.in-Some.line.now c.in-Some.after.now = search rules in
-    let noted : note_places c.args.name.now c.lines.number (noted_at c.lines.machine (line_at c.in-Some.line.now)) ≡ [] = search rules in
+    let noted : note_places c.args.script.now.name.now c.lines.number (noted_at c.lines.run.machine (line_at c.in-Some.line.now)) ≡ [] = search rules in
     plays_notes _ _ _ _ _ (Noted-ends _ _ _ _ _ _ _ _ _ _ _ _ c.lines.invariant.noted cut ends noted)

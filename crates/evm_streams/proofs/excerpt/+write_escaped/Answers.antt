@@ -6,7 +6,7 @@ use Rattle.evm_streams.proofs.excerpt.+write_escaped.Goals as goal
 pub returns-in_default : goal.returns-in_default
 returns-in_default g t c = words_none _ _
 
-pub returns-in-Ok : goal.returns-in-Ok
-returns-in-Ok g t c =
+pub returns : goal.returns
+returns g t c =
     let took : TookWords g.E.Sink.takes c.args.errors.now c.write_byte.new.errors = search rules in
     words_then _ _ _ _ _ took c.write_escaped.ensures

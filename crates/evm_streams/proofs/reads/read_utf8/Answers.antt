@@ -5,9 +5,9 @@ use Rattle.evm_streams.specs.declared.reads.TheConstants.{FILE_LIMIT}
 use Rattle.evm_streams.specs.Reads.{Whole}
 use Rattle.evm_streams.proofs.reads.read_utf8.Goals as goal
 
-pub returns-in-Ok-from_utf8 : goal.returns-in-Ok-from_utf8
-returns-in-Ok-from_utf8 g c =
-    let same : string_bytes c.in-Ok-from_utf8.text ≡ c.in-Ok.bytes.items = search rules in
+pub returns-in-Ok : goal.returns-in-Ok
+returns-in-Ok g c =
+    let same : string_bytes c.in-Ok.text ≡ c.in_ok-bytes.bytes.items = search rules in
     let P : List ℕ → Type 0 = λ z. Whole g.R.Source.gives c.args.source.now z c.read_all.new.source × (length z ≤ FILE_LIMIT) in
-    let read : P (string_bytes c.in-Ok-from_utf8.text) = subst P (sym same) c.in-Ok.ensures in
+    let read : P (string_bytes c.in-Ok.text) = subst P (sym same) c.in_ok-bytes.ensures in
     (read.0, read.1, subst IsUtf8 c.as_str.ensures.value c.as_str.utf8)

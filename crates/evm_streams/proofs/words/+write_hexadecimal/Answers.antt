@@ -3,7 +3,7 @@ use Rattle.evm_streams.specs.Diagnostic.{TookWords}
 use Rattle.evm_streams.proofs.Messages.{words_then}
 use Rattle.evm_streams.proofs.words.+write_hexadecimal.Goals as goal
 
-pub returns-in-Ok : goal.returns-in-Ok
-returns-in-Ok g t c =
+pub returns : goal.returns
+returns g t c =
     let took : TookWords g.E.Sink.takes c.args.errors.now c.write_hexadecimal.new.errors = search rules in
-    words_then _ _ _ _ _ took c.write_words-in-Ok.ensures
+    words_then _ _ _ _ _ took c.write_words-2.ensures

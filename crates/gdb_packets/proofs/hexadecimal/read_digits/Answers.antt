@@ -12,5 +12,5 @@ loop-rest-preserved c =
     let low : worth (get_or rest 1 0) < 16 = omega (arith, c.worth-low.ensures) in
     let e = bytes_on_more items rest c.in-len2-up.len_at_least high low in
     let after = take (length rest - 2) (drop 2 rest) in
-    let next : bytes_on c.push_byte.new.out.items after ≡ bytes_on [] c.args.digits.now = rw (c.in-Ok.ensures.ok, c.worth-high.ensures, c.worth-low.ensures) (sym e ∙ c.loop-rest.invariant) in
+    let next : bytes_on c.push_byte.new.out.items after ≡ bytes_on [] c.args.digits.now = rw (c.in_ok-push_byte.ensures.ok, c.worth-high.ensures, c.worth-low.ensures) (sym e ∙ c.loop-rest.invariant) in
     next

@@ -1,5 +1,5 @@
 use Rattle.std.proofs.Common.{◌≡◌, ◌<◌, ℕ}
-use Rattle.law_alike.specs.Timeless.{due}
+use Rattle.law_runs.specs.Timeless.{due}
 use Rattle.hunt_states.proofs.timeless.has_no_timers.Given as goal
 
 abbrev pub invariant-timers : goal.invariant-timers

@@ -3,7 +3,7 @@ use Rattle.std.specs.Prelude.{option_copied}
 use Rattle.evm_isa.specs.Decoded.{decoded}
 use Rattle.evm_ram.proofs.Places.{read_at-inside, read_at-outside}
 use Rattle.evm_ram.specs.declared.width.Width.TheVariants.{Word}
-use Rattle.law_alike.specs.Timeless.{is_ecall_inst, is_ecall_word}
+use Rattle.law_runs.specs.Timeless.{is_ecall_inst, is_ecall_word}
 use Rattle.hunt_states.proofs.Words.{four-bytes}
 use Rattle.hunt_states.proofs.timeless.is_ecall_at.Goals as goal
 

@@ -13,7 +13,7 @@ returns-in-Ok-tell g c =
     let none : HasToldSome {W = g.row.W.Denot} takes c.args.output.now first first c.args.output.now c.new-printer.result =
     subst (λ (p : Printed). HasToldSome {W = g.row.W.Denot} takes c.args.output.now first first c.args.output.now p) (sym c.new-printer.ensures)
     (telling-none takes c.args.output.now first empty c.in-Ok.ensures.fresh) in
-    let gone : HasToldSome {W = g.row.W.Denot} takes c.args.output.now first c.go.new.machine c.go.new.output c.go.new.printer = c.in-Ok-go.ensures.telling c.args.output.now first none in
+    let gone : HasToldSome {W = g.row.W.Denot} takes c.args.output.now first c.go.new.machine c.go.new.output c.go.new.printer = c.in_ok-ending.ensures.telling c.args.output.now first none in
     let told : HasToldSome {W = g.row.W.Denot} takes c.args.output.now first c.go.new.machine c.tell.new.output c.tell.new.self =
     telling-told takes c.args.output.now c.go.new.output c.tell.new.output first c.go.new.machine c.go.new.printer c.tell.new.self c.in-Ok-tell.ensures.took c.in-Ok-tell.ensures.told gone in
     record {

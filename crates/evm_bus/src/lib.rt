@@ -1,6 +1,0 @@
-//! The devices of a machine.
-#![tactic(auto)]
-
-mod devices;
-
-pub use devices::Devices;

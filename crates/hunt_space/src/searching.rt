@@ -1,0 +1,274 @@
+//! The whole search.
+
+ghost use Rattle.std.specs.Prelude.{◌≡◌, ◌≤◌, ◌<◌, ◌∷◌, [], ℕ, false, true, length, slice_get, IfOk, OnOk, Option};
+ghost use Rattle.evm_model.specs.Good.{GoodState};
+ghost use Rattle.evm_model.specs.State.{State};
+ghost use Rattle.hunt_search.specs.Hunts.{AreFound};
+ghost use Rattle.hunt_space.specs.Going.{HasGone, IsNumbered, BeginsSearch};
+ghost use Rattle.hunt_space.specs.Runs.{NeverFailsAtAll};
+ghost use Rattle.hunt_space.specs.Searched.{IsSpaceSearched};
+ghost use Rattle.hunt_space.specs.Space.{KeepsPaths, KeepsPlaces};
+
+use crate::clock::TickBound;
+use crate::frontier::Frontier;
+use crate::going::{Going, Tally};
+use crate::path::Path;
+use crate::text::TextSpan;
+use crate::turning::go;
+use crate::visited::Visited;
+use hunt_schedules::{HuntStop, begin};
+use hunt_search::{HuntRun, Onlooker, Report, Target, note};
+
+/// What bounds a search.
+#[derive(Clone, Copy, Debug)]
+pub struct SpaceBounds {
+    /// Which ticks may come.
+    pub clock: TickBound,
+    /// The most states that are visited, below 2^31.
+    pub states: u32,
+}
+
+/// What a search came to.
+#[derive(Debug, Drop)]
+pub struct SpaceReport {
+    /// The failures, and whether the search was cut.
+    pub report: Report,
+    /// How many states were visited.
+    pub states: u64,
+    /// How many events were made at them.
+    pub events: u64,
+    /// At how many of them nothing more can happen.
+    pub ends: u64,
+    /// Where a call reads the clock or names a time, though any number of ticks may come.
+    pub clock: Option<u64>,
+}
+
+// Which ticks may come, and where private rows are taken from.
+#[derive(Clone, Copy, Debug)]
+struct Scope {
+    clock: TickBound,
+    text: TextSpan,
+}
+
+// How far a search has come.
+#[derive(Debug, Drop)]
+struct Search {
+    frontier: Frontier,
+    visited: Visited,
+    tally: Tally,
+}
+
+// A search of which some paths were gone.
+#[derive(Debug, Drop)]
+struct Gone {
+    search: Search,
+    count: u32,
+}
+
+// Goes a path on a fresh machine, and adds what it came to.
+fn look<O: Onlooker>(
+    going: &Going<'_>,
+    search: &mut Search,
+    report: &mut Report,
+    onlooker: &mut O,
+) -> Result<(), HuntStop>
+    requires found { AreFound going.now.target.image.now going.now.target.boot.now going.now.target.wanted.now.lines report.old.rows.items }
+    requires there { IsNumbered going.now search.old.frontier.paths.items }
+    ensures found { OnOk result (AreFound going.now.target.image.now going.now.target.boot.now going.now.target.wanted.now.lines report.new.rows.items) }
+    ensures keeps_paths { KeepsPaths search.old.frontier.paths.items search.new.frontier.paths.items }
+    ensures keeps_places { KeepsPlaces search.old.visited.places.items search.new.visited.places.items }
+    ensures cut { search.new.frontier.cut ≡ false → search.old.frontier.cut ≡ false }
+    ensures rows { OnOk result (report.new.rows.items ≡ [] → report.old.rows.items ≡ []) }
+    ensures boots { OnOk result ((first : State) × BeginsSearch going.now first × GoodState first) }
+    ensures goes { OnOk result (report.new.rows.items ≡ [] → search.new.frontier.cut ≡ false → HasGone going.now search.old.frontier.paths.items search.new.frontier.paths.items search.old.visited.places.items search.new.visited.places.items) }
+{
+    let target = going.target;
+    let mut machine = match begin(target.alloc, target.image, target.boot) {
+        Ok(machine) => machine,
+        Err(fault) => return Err(HuntStop::from(fault)),
+    };
+    machine.rules();
+    let outcome = match go(
+        going,
+        &mut machine,
+        &mut search.frontier,
+        &mut search.visited,
+        &mut search.tally,
+    ) {
+        Ok(outcome) => outcome,
+        Err(stop) => return Err(stop),
+    };
+    let run = HuntRun {
+        seed: u64::from(going.number),
+        machine: &machine,
+        outcome,
+    };
+    match note(&target, &run, report, onlooker) {
+        Ok(()) => Ok(()),
+        Err(stop) => Err(stop),
+    }
+}
+
+// Goes the paths, those that fork from them too; how many were gone.
+fn go_paths<O: Onlooker>(
+    target: &Target<'_>,
+    scope: Scope,
+    search: &mut Search,
+    report: &mut Report,
+    onlooker: &mut O,
+) -> Result<u32, HuntStop>
+    requires guarded { target.now.wanted.now.demotion ≡ true → 0 < scope.text.high → target.now.boot.now.watchdog ≡ 0 }
+    requires found { AreFound target.now.image.now target.now.boot.now target.now.wanted.now.lines report.old.rows.items }
+    requires root { (root : Path) × (search.old.frontier.paths.items ≡ root ∷ []) × (root.turns.items ≡ []) }
+    requires none { search.old.visited.places.items ≡ [] }
+    ensures found { OnOk result (AreFound target.now.image.now target.now.boot.now target.now.wanted.now.lines report.new.rows.items) }
+    ensures searched { IfOk result (λ count. report.new.rows.items ≡ [] → search.new.frontier.cut ≡ false → IsSpaceSearched target.now.image.now target.now.boot.now target.now.wanted.now scope.clock search.new.frontier.paths.items search.new.visited.places.items count) }
+{
+    'paths: for number in 0..u32::MAX {
+        if search.frontier.hit {
+            return Ok(number);
+        }
+        if !onlooker.goes_on(u64::from(number), report.rows.len() as u64) {
+            return Ok(number);
+        }
+        let path = match search.frontier.get(target.alloc, number) {
+            Ok(Some(path)) => path,
+            Ok(None) => return Ok(number),
+            Err(fault) => return Err(HuntStop::from(fault)),
+        };
+        let going = Going {
+            target: *target,
+            clock: scope.clock,
+            text: scope.text,
+            path: &path,
+            number,
+        };
+        match look(&going, search, report, onlooker) {
+            Ok(()) => {}
+            Err(stop) => return Err(stop),
+        }
+    }
+    Ok(u32::MAX)
+}
+
+// Whether there are paths that were not gone.
+fn is_cut(frontier: &Frontier, count: u32) -> bool
+    ensures { result ≡ false → (frontier.now.cut ≡ false) × (length frontier.now.paths.items ≤ count) }
+{
+    if frontier.cut {
+        return true;
+    }
+    frontier.paths.len() as u64 > u64::from(count)
+}
+
+// What a search came to, where so many of its paths were gone.
+fn told(mut report: Report, search: &Search, count: u32) -> SpaceReport
+    ensures rows { result.report.rows ≡ report.rows }
+    ensures cut { result.report.cut ≡ false → (search.now.frontier.cut ≡ false) × (length search.now.frontier.paths.items ≤ count) }
+{
+    report.set_cut(is_cut(&search.frontier, count));
+    SpaceReport {
+        report,
+        states: search.visited.places.len() as u64,
+        events: search.tally.events,
+        ends: search.tally.ends,
+        clock: search.frontier.clock,
+    }
+}
+
+// A search that begins: the boot is the one path.
+fn begun(target: &Target<'_>, states: u32) -> Result<Search, HuntStop>
+    ensures root { IfOk result (λ search. (root : Path) × (search.frontier.paths.items ≡ root ∷ []) × (root.turns.items ≡ [])) }
+    ensures none { IfOk result (λ search. search.visited.places.items ≡ []) }
+{
+    let most = u64::from(states) * 4 + 4;
+    let frontier = match Frontier::new(target.alloc, most) {
+        Ok(frontier) => frontier,
+        Err(fault) => return Err(HuntStop::from(fault)),
+    };
+    let visited = match Visited::new(target.alloc, states) {
+        Ok(visited) => visited,
+        Err(fault) => return Err(HuntStop::from(fault)),
+    };
+    Ok(Search {
+        frontier,
+        visited,
+        tally: Tally::new(),
+    })
+}
+
+// Searches all, and makes the private rows of a text at once.
+fn search_text<O: Onlooker>(
+    target: &Target<'_>,
+    bounds: &SpaceBounds,
+    text: TextSpan,
+    report: &mut Report,
+    onlooker: &mut O,
+) -> Result<Gone, HuntStop>
+    requires guarded { target.now.wanted.now.demotion ≡ true → 0 < text.high → target.now.boot.now.watchdog ≡ 0 }
+    requires found { AreFound target.now.image.now target.now.boot.now target.now.wanted.now.lines report.old.rows.items }
+    ensures found { OnOk result (AreFound target.now.image.now target.now.boot.now target.now.wanted.now.lines report.new.rows.items) }
+    ensures searched { IfOk result (λ gone. report.new.rows.items ≡ [] → gone.search.frontier.cut ≡ false → IsSpaceSearched target.now.image.now target.now.boot.now target.now.wanted.now bounds.now.clock gone.search.frontier.paths.items gone.search.visited.places.items gone.count) }
+{
+    let mut search = match begun(target, bounds.states) {
+        Ok(search) => search,
+        Err(stop) => return Err(stop),
+    };
+    let scope = Scope {
+        clock: bounds.clock,
+        text,
+    };
+    match go_paths(target, scope, &mut search, report, onlooker) {
+        Ok(count) => Ok(Gone { search, count }),
+        Err(stop) => Err(stop),
+    }
+}
+
+// Searches all. Where a program stores to its text, no private row is made at once.
+fn search_all<O: Onlooker>(
+    target: &Target<'_>,
+    bounds: &SpaceBounds,
+    report: &mut Report,
+    onlooker: &mut O,
+) -> Result<Gone, HuntStop>
+    requires found { AreFound target.now.image.now target.now.boot.now target.now.wanted.now.lines report.old.rows.items }
+    ensures found { OnOk result (AreFound target.now.image.now target.now.boot.now target.now.wanted.now.lines report.new.rows.items) }
+    ensures searched { IfOk result (λ gone. report.new.rows.items ≡ [] → gone.search.frontier.cut ≡ false → IsSpaceSearched target.now.image.now target.now.boot.now target.now.wanted.now bounds.now.clock gone.search.frontier.paths.items gone.search.visited.places.items gone.count) }
+{
+    let gone = match search_text(target, bounds, TextSpan::of(target), report, onlooker) {
+        Ok(gone) => gone,
+        Err(stop) => return Err(stop),
+    };
+    if !gone.search.frontier.hit {
+        return Ok(gone);
+    }
+    drop(gone);
+    match search_text(target, bounds, TextSpan::none(), report, onlooker) {
+        Ok(again) => Ok(again),
+        Err(stop) => Err(stop),
+    }
+}
+
+/// Makes each event that may come at each state, up to states that are alike to one that was visited. In place of a seed a failure has the
+/// number of its path.
+///
+/// # Errors
+///
+/// Memory was refused, or no machine boots with the image.
+pub fn hunt_space<O: Onlooker>(
+    target: &Target<'_>,
+    bounds: &SpaceBounds,
+    onlooker: &mut O,
+) -> Result<SpaceReport, HuntStop>
+    // each failure is one of a machine that was booted with the image
+    ensures found { IfOk result (λ found. AreFound target.now.image.now target.now.boot.now target.now.wanted.now.lines found.report.rows.items) }
+    // if it has found none and wasn't cut, no schedule fails, however long it is
+    ensures complete { IfOk result (λ found. found.report.rows.items ≡ [] → found.report.cut ≡ false → NeverFailsAtAll target.now.image.now target.now.boot.now target.now.wanted.now bounds.now.clock) }
+{
+    let mut report = Report::new(target.alloc, false);
+    let gone = match search_all(target, bounds, &mut report, onlooker) {
+        Ok(gone) => gone,
+        Err(stop) => return Err(stop),
+    };
+    Ok(told(report, &gone.search, gone.count))
+}

@@ -1,5 +1,0 @@
-use Rattle.law_alike.proofs.TimelessLaws.{alike_call_no_clock}
-use Rattle.law_alike.proofs.alike_call_no_clock.Goals as goal
-
-pub returns : goal.returns
-returns c = alike_call_no_clock

@@ -1,5 +1,0 @@
-use Rattle.law_alike.proofs.TimelessLaws.{boots_have_no_times}
-use Rattle.law_alike.proofs.boots_have_no_times.Goals as goal
-
-pub returns : goal.returns
-returns c = boots_have_no_times

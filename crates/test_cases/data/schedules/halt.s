@@ -1,0 +1,3 @@
+# One task, which stops its processor.
+        .globl _start
+_start: ebreak
