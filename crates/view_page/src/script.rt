@@ -610,6 +610,8 @@ class Chart {
     return this.runs.flatMap((run, r) => (this.runs.length > 1 ? [{ heading: `${r ? 'beside: ' : ''}${run.about.journal}`, run }, ...run.lanes] : run.lanes));
   }
   x(run, event, width) { return GUTTER + ((this.axes[run.number].position(event) - this.from) / (this.to - this.from)) * (width - GUTTER); }
+  // How much of the axis the event at a place takes: on the axis of Steps, an event that is none takes nothing.
+  oneAt(place) { const axis = this.axes[0], event = Math.floor(axis.event(place)); return axis.position(event + 1) - axis.position(event) || 1; }
   eventAt(run, x, width) { return this.axes[run.number].event(this.from + ((x - GUTTER) / (width - GUTTER)) * (this.to - this.from)); }
   // Of each pixel of the width, the event that begins there.
   columns(run, width) {
@@ -641,7 +643,9 @@ class Chart {
     const span = this.to - this.from, rough = span / Math.max(1, (width - GUTTER) / 110), power = 10 ** Math.floor(Math.log10(rough));
     const step = Math.max(1, [1, 2, 5, 10].map((n) => n * power).find((n) => n >= rough));
     pen.text(8, 15, { events: 'event', steps: 'Step', ticks: 'tick' }[this.kind], colours.dim);
-    for (let at = Math.ceil(this.from / step) * step; at <= this.to; at += step) {
+    const begin = Math.ceil(this.from / step) * step;
+    if (begin > this.to) pen.text(GUTTER + 3, 15, `in ${Math.floor(this.from).toLocaleString('en')}`, colours.dim);
+    for (let at = begin; at <= this.to; at += step) {
       const x = GUTTER + ((at - this.from) / span) * (width - GUTTER);
       pen.line(x, RULER - 5, x, RULER, colours.dim);
       pen.text(x + 3, 15, at.toLocaleString('en'), colours.dim);
@@ -1062,9 +1066,9 @@ class Page {
     });
     return picture;
   }
-  // The window of the axis that is shown.
+  // The window of the axis that is shown: one event of it at least.
   window(first, last) {
-    const least = Math.min(this.chart.end, 4), span = Math.max(least, Math.min(this.chart.end * 1.02, last - first));
+    const least = Math.min(this.chart.end, this.chart.oneAt((first + last) / 2)), span = Math.max(least, Math.min(this.chart.end * 1.02, last - first));
     const begin = Math.max(-span * 0.02, Math.min(first, this.chart.end * 1.02 - span));
     this.chart.from = begin; this.chart.to = begin + span;
     this.paint?.call(this.context ? this : { waiting: true });
@@ -1089,7 +1093,10 @@ class Page {
     this.chosen = { run, lane: lane ?? this.chosen.lane, event: run.first[k], count: run.first[k + 1] - run.first[k], k, links: linksOf(run, k), asked: at };
     if (this.chosen.lane.run !== run) this.chosen.lane = run.lanes[0];
     const position = this.chart.axes[run.number].position(run.first[k]), span = this.chart.to - this.chart.from;
-    if (position < this.chart.from || position >= this.chart.to) this.window(position - span / 2, position + span / 2);
+    if (position < this.chart.from || position >= this.chart.to) {
+      const middle = position + Math.min(span, this.chart.oneAt(position)) / 2;
+      this.window(middle - span / 2, middle + span / 2);
+    }
     this.tell();
     this.showLane();
     this.paint();
