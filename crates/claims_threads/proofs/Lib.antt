@@ -1,6 +1,7 @@
 pub mod Bells
 pub mod Covering
 pub mod Exact
+pub mod Made
 pub mod Pairs
 pub mod Said
 pub mod Shares

@@ -24,7 +24,7 @@ use Rattle.claims_threads.specs.Lines.{in_receipts, is_bell, rings}
 
 -- ---- the Bells of a word
 
-abbrev bell_if : Bool → ℕ → ℕ → List Event
+abbrev pub bell_if : Bool → ℕ → ℕ → List Event
 bell_if b c n = if b then event.Bell c n ∷ [] else []
 
 abbrev ticked : (Event → Bool) → Event → ℕ
@@ -53,7 +53,7 @@ not_yet c l d word (suc n) le =
     let last = other_line (d == c) (bit_at word n == 1) c l d n apart refl in
     omega (arith, not_yet c l d word n (omega arith), last, sum_by-append (ticked (rings c l)) (bells_below d word n) (bell_if (bit_at word n == 1) d n))
 
-bit_tested : (b : Bool) (n : ℕ) → n < 2 → (n == 1) ≡ b → cond b 1 0 ≡ n
+pub bit_tested : (b : Bool) (n : ℕ) → n < 2 → (n == 1) ≡ b → cond b 1 0 ≡ n
 bit_tested true n low test = sym (eqb-true n 1 test)
 bit_tested false n low test = let no = eqb-false n 1 test in omega arith
 

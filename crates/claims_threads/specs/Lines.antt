@@ -1,5 +1,8 @@
 -- Bells, and what receipts say of them.
-use Rattle.std.specs.Prelude.{ℕ, Bool, false, ◌==◌, ◌&&◌, List, count_by, sum_by, take}
+use Rattle.std.specs.Prelude.{ℕ, zero, suc, ◌+◌, Bool, false, ◌==◌, ◌&&◌, List, count_by, sum_by, take}
+use Rattle.std.specs.Int.{bit_at}
+use Rattle.evm_bells.specs.Batches.{Batch}
+use Rattle.evm_lines.specs.declared.TheConstants.{LINES}
 use Rattle.evm_model.specs.Event.{Event}
 use Rattle.evm_model.specs.Kinds.{ABell, kind_of, is_same_kind}
 use Rattle.evm_model.specs.declared.event.Event.TheVariants.{Raise, Bell, Tick}
@@ -35,3 +38,12 @@ in_receipts such receipts = sum_by (λ r. count_by such (made_events r.made)) re
 -- how many such events the receipts of some ports say
 abbrev pub in_ports : (Event → Bool) → List PortValue → ℕ
 in_ports such ports = sum_by (λ p. in_receipts such p.receipts) ports
+
+-- how many of the first n lines stand in a word
+unfoldable pub lines_below : ℕ → ℕ → ℕ
+lines_below word zero = 0
+lines_below word (suc n) = lines_below word n + bit_at word n
+
+-- how many lines some batches have
+abbrev pub line_total : List Batch → ℕ
+line_total batches = sum_by (λ b. lines_below b.1 LINES) batches

@@ -5,7 +5,7 @@ use Rattle.evm_bells.specs.Seats.{BellsValue, TakerValue}
 use Rattle.evm_lines.specs.declared.TheConstants.{LINES}
 use Rattle.evm_shared.specs.Ports.{PortValue}
 use Rattle.evm_shared.specs.Workers.{WorkerValue}
-use Rattle.claims_threads.specs.Lines.{in_receipts, is_bell, rings}
+use Rattle.claims_threads.specs.Lines.{in_receipts, is_bell, line_total, rings}
 
 -- a port's receipts say of each line of each processor as many Bells as the taker has taken lines, and of all lines as many
 -- as were made through the port
@@ -18,6 +18,16 @@ abbrev pub SayTaken : List PortValue → List TakerValue → Type 0
 SayTaken [] [] = Unit {0}
 SayTaken (p ∷ ports) (t ∷ takers) = SaysTaken p t × SayTaken ports takers
 SayTaken _ _ = ⊥
+
+-- as many Bells were made through a port as the taker has taken lines, with receipts or without
+abbrev pub MakesTaken : PortValue → TakerValue → Type 0
+MakesTaken p t = p.share.bells ≡ line_total t.taken
+
+-- likewise through each port, with the taker of its place
+abbrev pub MakeTaken : List PortValue → List TakerValue → Type 0
+MakeTaken [] [] = Unit {0}
+MakeTaken (p ∷ ports) (t ∷ takers) = MakesTaken p t × MakeTaken ports takers
+MakeTaken _ _ = ⊥
 
 -- a worker's taker is of these bells, its port's receipts say what the taker has taken, and its port was made when the journal had
 -- n events, or later

@@ -1,5 +1,5 @@
 //! Whichever host threads make the events, the machine is what its journal says.
-ghost use Rattle.std.specs.Prelude.{◌≡◌, ◌+◌, count_by, sum_by, IfSome};
+ghost use Rattle.std.specs.Prelude.{◌≡◌, ◌+◌, count_by, length, sum_by, IfSome, IsSome};
 ghost use Rattle.evm_model.specs.Kinds.{AStep, ABell, Another, is_same_kind, kind_of};
 ghost use Rattle.evm_model.specs.Replay.{replay};
 ghost use Rattle.evm_shared.specs.EventCounts.{BeginsWith};
@@ -19,6 +19,8 @@ pub fn the_machine_under_the_lock_is_its_journals_replay<
     B: Ledger,
     T: Ledger,
 >(shared: Shared<D, O, S, B, T>, ports: Vec<Port<S, B, T>>) -> Option<Finished<D, S, B, T>>
+    // it ends if these are all ports
+    ensures ended { length ports.items ≡ shared → IsSome result }
     ensures replayed { IfSome result (λ done. replay O.start done.machine.journal ≡ done.machine) }
     ensures ports { IfSome result (λ done. done.ports.items ≡ ports.items) }
     // the events that it had are the first ones

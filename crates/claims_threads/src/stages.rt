@@ -1,7 +1,8 @@
 //! From a Bell in the journal, and from a bell that a host thread rings, to its playback on a stage.
-ghost use Rattle.std.specs.Prelude.{◌≡◌, ◌+◌, ◌≤◌, ℕ, All, IfSome, Option, if◌then◌else◌, count_by, length, slice_get, slice_index, sum_by};
+ghost use Rattle.std.specs.Prelude.{◌≡◌, ◌+◌, ◌≤◌, ℕ, All, IfSome, IsSome, Option, if◌then◌else◌, count_by, length, slice_get, slice_index, sum_by};
 ghost use Rattle.std.specs.Int.{bit_at};
 ghost use Rattle.evm_bells.specs.Batches.{count};
+ghost use Rattle.evm_bells.specs.Rule.{whole_weight};
 ghost use Rattle.evm_bells.specs.Seats.{TakerValue, taken_by};
 ghost use Rattle.claims_machine.specs.Raising.{NoDevicesLine};
 ghost use Rattle.claims_machine.specs.Reached.{Ran};
@@ -53,6 +54,8 @@ pub fn each_ring_comes_to_a_stage<D: Device, O: Origin, S: Ledger, B: Ledger, T:
 ) -> Option<(Finished<D, S, B, T>, Closed)>
     requires ringer { ringer.bells ≡ bells.id }
     requires takers { All (λ (t : TakerValue). t.bells ≡ bells.id) takers.items }
+    // all ends if these are all ports and all seats
+    ensures ended { length ports.items ≡ shared → ringer.weight + length takers.items ≡ whole_weight bells.cpus → IsSome result }
     ensures lines { IfSome result (λ ended. (boot : Boot) (c l : ℕ) (pipe : Pipe) (n : Counts) → O.base.bells ≡ 0
         → in_ports is_bell ports.items ≡ sum_by (λ (p : PortValue). p.share.bells) ports.items
         → PortsHold ended.0.machine ports.items (length ports.items)

@@ -89,6 +89,9 @@ pub fn no_interrupt_is_lost_or_played_twice<D: Device, O: Origin, S: Ledger, B: 
     ensures others { IfSome result (λ ended. count_by (λ event. is_same_kind (kind_of event) Another) ended.0.machine.journal ≡ O.base.others + sum_by (λ (p : PortValue). p.share.others) ports.items) }
     ensures rung { IfSome result (λ ended. (c l : ℕ) → l < LINES → SayTaken ports.items takers.items →
         count ringer.fresh c l ≡ in_ports (rings c l) ports.items + bit_at (slice_index ended.1.left c) l) }
+    // a line that a ring found standing has a Bell, or is left
+    ensures answered { IfSome result (λ ended. (c l : ℕ) → l < LINES → 0 < count ringer.stood c l → All (λ (p : PortValue). event_total O.base ≤ p.since) ports.items → SayTaken ports.items takers.items →
+        0 < count_by (rings c l) (events_since O.base ended.0.machine.journal) + bit_at (slice_index ended.1.left c) l) }
     ensures delivered { IfSome result (λ ended. (c l : ℕ) → O.base.bells ≡ 0 → SayTaken ports.items takers.items →
         in_ports (rings c l) ports.items ≡ count_by (rings c l) ended.0.machine.journal) }
     ensures since { IfSome result (λ ended. (c l : ℕ) → All (λ (p : PortValue). event_total O.base ≤ p.since) ports.items → SayTaken ports.items takers.items →

@@ -1,14 +1,14 @@
 -- Counters and batches.
-use Rattle.std.proofs.Common.{◌≡◌, ℕ, zero, suc, ◌+◌, ◌*◌, ◌%◌, ◌^◌, ◌<◌, ◌≤◌, Bool, true, false, ◌&&◌, nat_eq, List, [], ◌∷◌, ◌++◌, length, set, get_or, sym, refl, ap, ◌∙◌, arith, append_assoc, subst, length-append}
+use Rattle.std.proofs.Common.{◌≡◌, ℕ, zero, suc, ◌+◌, ◌%◌, ◌^◌, ◌<◌, Bool, true, false, ◌&&◌, nat_eq, List, [], ◌∷◌, ◌++◌, length, set, sym, refl, ap, ◌∙◌, arith, append_assoc, subst, length-append}
 use Rattle.std.proofs.lemmas.Bool.Decides.{nat_tests}
-use Rattle.std.specs.Prelude.{slice_index, slice_index_or, All}
+use Rattle.std.specs.Prelude.{slice_index, All}
 use Rattle.std.proofs.Math.ListN.{get_or-append}
 use Rattle.std.proofs.Math.Seq.{get_or-append_seam}
 use Rattle.std.specs.Int.{bit_at}
 use Rattle.std.proofs.lemmas.Nat.Bits.{bit_at-zero}
 use Rattle.std.proofs.lemmas.List.{get_or-set_same, get_or-set_other, append-nil}
 use native.Mathlib.Decide.{ℕ_discrete}
-use Rattle.evm_lines.specs.declared.TheConstants.{LINES, LINE_COUNT}
+use Rattle.evm_lines.specs.declared.TheConstants.{LINES}
 use Rattle.evm_bells.specs.declared.counts.TheConstants.{PROCESSOR_LIMIT}
 use Rattle.evm_bells.specs.Batches.{Batch, counter, count, HaveCounted}
 use Rattle.evm_bells.specs.Seats.{TakerValue, taken_by}

@@ -1,6 +1,6 @@
 -- Each step keeps the bells kept.
-use Rattle.std.proofs.Common.{◌≡◌, ℕ, zero, suc, ◌+◌, ◌-◌, ◌*◌, ◌/◌, ◌%◌, ◌^◌, ◌<◌, ◌≤◌, ◌≢◌, Bool, true, false, List, [], ◌∷◌, ◌++◌, length, set, get_or, cond, nat_eq, sym, refl, ap, ◌∙◌, subst, arith, max, min, lt_of_not-le}
-use Rattle.std.specs.Prelude.{bit_and, slice_index, slice_index_or, ◌==◌, if◌then◌else◌}
+use Rattle.std.proofs.Common.{◌≡◌, ℕ, zero, suc, ◌+◌, ◌^◌, ◌<◌, ◌≤◌, ◌≢◌, Bool, true, false, List, [], ◌∷◌, ◌++◌, length, set, sym, refl, ap, ◌∙◌, arith, lt_of_not-le}
+use Rattle.std.specs.Prelude.{bit_and, slice_index, ◌==◌, if◌then◌else◌}
 use Rattle.std.specs.Int.{bit_at}
 use Rattle.std.specs.Int.RustNames.{bit_or}
 use Rattle.std.proofs.lemmas.Bool.Decides.{nat_tests}
@@ -9,21 +9,32 @@ use Rattle.std.proofs.lemmas.Nat.Bits.{bit_at_or, bit_at-zero, bit_at-pow_same, 
 use Rattle.std.proofs.lemmas.Nat.{or_lt}
 use Rattle.std.proofs.Math.Pow.{pow-lt}
 use native.Mathlib.Decide.{ℕ_discrete, dec_le}
-use mathlib.Core.Logic.{dite}
 use mathlib.Core.Option.{some, none, some-injective, some-ne-none}
 use lib.ListN.{get_elem?}
-use Rattle.atomic_table.specs.Table.{State, Me, Allows, Splits, Joins, Act, keeps, step}
+use Rattle.atomic_table.specs.Table.{State, Me, Allows, Splits, Joins, keeps, step}
 use Rattle.evm_lines.specs.declared.TheConstants.{LINES}
 use Rattle.evm_bells.specs.declared.counts.TheConstants.{PROCESSOR_LIMIT}
-use Rattle.evm_bells.specs.Batches.{Batch, count}
-use Rattle.evm_bells.specs.Rule.{whole_weight, total, WeighsNothing, WeighNothing, AreAccounted, view_of, first_view, rung, Rings, took, Takes, Weighs, half_kept, half_given, one_kept, one_given, joined, spent}
+use Rattle.evm_bells.specs.Batches.{count}
+use Rattle.evm_bells.specs.Rule.{whole_weight, total, WeighsNothing, AreAccounted, view_of, first_view, rung, Rings, took, Takes, Weighs, joined, spent}
 use Rattle.evm_bells.specs.declared.rule.SeatView.{SeatView}
 use Rattle.evm_bells.proofs.Sums.{total_set, total_snoc, idle_set, idle_snoc, weight_below, alone, count-append}
-use Rattle.evm_bells.specs.Seats.{AddsUp}
+use Rattle.evm_bells.specs.Seats.{AddsUp, AreAnswered}
 
 -- what a step adds to the fresh batches, it adds to the taken ones and to the word
 abbrev Moves : List ℕ → List ℕ → SeatView → SeatView → Type 0
 Moves words new v w = (b l : ℕ) → count w.fresh b l + (count v.taken b l + bit_at (slice_index words b) l) ≡ count v.fresh b l + (count w.taken b l + bit_at (slice_index new b) l)
+
+-- what a step adds to the batches that stood stands in the word, and no fresh batch goes
+abbrev Hears : List ℕ → SeatView → SeatView → Type 0
+Hears words v w = (b l : ℕ) → (count v.fresh b l ≤ count w.fresh b l) × (count w.stood b l ≤ count v.stood b l + bit_at (slice_index words b) l)
+
+same_hears : (words : List ℕ) (v w : SeatView) → w.fresh ≡ v.fresh → w.stood ≡ v.stood → Hears words v w
+same_hears words v w fresh stood b l = (rw fresh (omega arith), rw stood (omega arith))
+
+still_heard : (fresh fresh_new stood stood_new v_fresh w_fresh v_stood w_stood taken bit : ℕ) → (0 < stood → 0 < fresh) → fresh ≡ taken + bit
+    → fresh_new + v_fresh ≡ fresh + w_fresh → stood_new + v_stood ≡ stood + w_stood → v_fresh ≤ w_fresh → w_stood ≤ v_stood + bit → 0 < stood_new → 0 < fresh_new
+still_heard fresh fresh_new zero stood_new v_fresh w_fresh v_stood w_stood taken bit heard balance f s grows stands found = omega arith
+still_heard fresh fresh_new (suc d) stood_new v_fresh w_fresh v_stood w_stood taken bit heard balance f s grows stands found = let before : 0 < fresh = heard (omega arith) in omega arith
 
 narrow_set : (words : List ℕ) (c n b : ℕ) → c < length words → n < 2 ^ LINES → slice_index words b < 2 ^ LINES → Dec (b ≡ c) → slice_index (set words c n) b < 2 ^ LINES
 narrow_set words c n b there low old (yes same) = rw same (rw (get_or-set_same words c n 0 there) low)
@@ -31,8 +42,8 @@ narrow_set words c n b there low old (no other) = rw (get_or-set_other words c b
 
 -- one step of a seat that has weight
 pub one_step : (cpus : ℕ) (words : List ℕ) (views : List SeatView) (id c n : ℕ) (v w : SeatView) → AreAccounted cpus words views → get_elem? views id ≡ some v
-    → c < cpus → n < 2 ^ LINES → 0 < v.weight → w.weight ≡ v.weight → Moves words (set words c n) v w → AreAccounted cpus (set words c n) (set views id w)
-one_step cpus words views id c n v w kept at there low some_weight same moves = record {
+    → c < cpus → n < 2 ^ LINES → 0 < v.weight → w.weight ≡ v.weight → Moves words (set words c n) v w → Hears words v w → AreAccounted cpus (set words c n) (set views id w)
+one_step cpus words views id c n v w kept at there low some_weight same moves hears = record {
   sized = length-set words c n ∙ kept.sized;
   narrow = λ b. narrow_set words c n b (rw kept.sized there) low (kept.narrow b) (ℕ_discrete b c);
   weighs = omega (arith, kept.weighs, total_set (λ u. u.weight) views id v w at);
@@ -43,6 +54,23 @@ one_step cpus words views id c n v w kept at there low some_weight same moves = 
     total_set (λ u. count u.fresh b l) views id v w at,
     total_set (λ u. count u.taken b l) views id v w at,
   );
+  heard = λ b l. still_heard
+      (total (λ u. count u.fresh b l) views)
+      (total (λ u. count u.fresh b l) (set views id w))
+      (total (λ u. count u.stood b l) views)
+      (total (λ u. count u.stood b l) (set views id w))
+      (count v.fresh b l)
+      (count w.fresh b l)
+      (count v.stood b l)
+      (count w.stood b l)
+      (total (λ u. count u.taken b l) views)
+      (bit_at (slice_index words b) l)
+      (kept.heard b l)
+      (kept.balance b l)
+      (total_set (λ u. count u.fresh b l) views id v w at)
+      (total_set (λ u. count u.stood b l) views id v w at)
+      (hears b l).0
+      (hears b l).1;
   idle = idle_set views id w (λ none. absurd (omega arith)) kept.idle;
 }
 
@@ -70,7 +98,7 @@ at_set_there : (words : List ℕ) (b c n l : ℕ) → b ≢ c → bit_at (slice_
 at_set_there words b c n l other = ap (λ (x : ℕ). bit_at x l) (get_or-set_other words c b n 0 other)
 
 fresh_moves : (words : List ℕ) (c line : ℕ) (v : SeatView) → c < length words → bit_at (slice_index words c) line ≡ 0
-    → Moves words (set words c (bit_or (slice_index words c) (2 ^ line))) v (view_of v.weight (v.fresh ++ (c, 2 ^ line) ∷ []) v.taken)
+    → Moves words (set words c (bit_or (slice_index words c) (2 ^ line))) v (view_of v.weight (v.fresh ++ (c, 2 ^ line) ∷ []) v.stood v.taken)
 fresh_moves words c line v there off b l = by_place (ℕ_discrete b c)
   where
     by_place : Dec (b ≡ c) → count (v.fresh ++ (c, 2 ^ line) ∷ []) b l + (count v.taken b l + bit_at (slice_index words b) l) ≡ count v.fresh b l + (count v.taken b l + bit_at (slice_index (set words c (bit_or (slice_index words c) (2 ^ line))) b) l)
@@ -78,7 +106,7 @@ fresh_moves words c line v there off b l = by_place (ℕ_discrete b c)
     by_place (no other) = omega (arith, count-append v.fresh ((c, 2 ^ line) ∷ []) b l, mark_elsewhere b c (2 ^ line) l other, at_set_there words b c (bit_or (slice_index words c) (2 ^ line)) l other)
 
 stale_moves : (words : List ℕ) (c line : ℕ) (v : SeatView) → c < length words → bit_at (slice_index words c) line ≡ 1
-    → Moves words (set words c (bit_or (slice_index words c) (2 ^ line))) v v
+    → Moves words (set words c (bit_or (slice_index words c) (2 ^ line))) v (view_of v.weight v.fresh (v.stood ++ (c, 2 ^ line) ∷ []) v.taken)
 stale_moves words c line v there on b l = by_place (ℕ_discrete b c)
   where
     by_place : Dec (b ≡ c) → count v.fresh b l + (count v.taken b l + bit_at (slice_index words b) l) ≡ count v.fresh b l + (count v.taken b l + bit_at (slice_index (set words c (bit_or (slice_index words c) (2 ^ line))) b) l)
@@ -97,10 +125,37 @@ ring_moves words c line v (suc zero) there on small =
     rw test (stale_moves words c line v there on)
 ring_moves words c line v (suc (suc d)) there on small = absurd (omega arith)
 
+-- only a line that stands is found standing
+bit_stands : (n line l : ℕ) → bit_at n line ≡ 1 → Dec (l ≡ line) → bit_at (2 ^ line) l ≤ bit_at n l
+bit_stands n line l on (yes same) = rw same (omega (arith, bit_at-pow_same line, on))
+bit_stands n line l on (no other) = omega (arith, bit_at-pow_other line l other)
+
+stale_hears : (words : List ℕ) (c line : ℕ) (v : SeatView) → bit_at (slice_index words c) line ≡ 1
+    → Hears words v (view_of v.weight v.fresh (v.stood ++ (c, 2 ^ line) ∷ []) v.taken)
+stale_hears words c line v on b l = (omega arith, by_place (ℕ_discrete b c))
+  where
+    by_place : Dec (b ≡ c) → count (v.stood ++ (c, 2 ^ line) ∷ []) b l ≤ count v.stood b l + bit_at (slice_index words b) l
+    by_place (yes same) = rw same (omega (arith, count-append v.stood ((c, 2 ^ line) ∷ []) c l, mark_here c (2 ^ line) l, bit_stands (slice_index words c) line l on (ℕ_discrete l line)))
+    by_place (no other) = omega (arith, count-append v.stood ((c, 2 ^ line) ∷ []) b l, mark_elsewhere b c (2 ^ line) l other)
+
+fresh_hears : (words : List ℕ) (c line : ℕ) (v : SeatView) → Hears words v (view_of v.weight (v.fresh ++ (c, 2 ^ line) ∷ []) v.stood v.taken)
+fresh_hears words c line v b l = (omega (arith, count-append v.fresh ((c, 2 ^ line) ∷ []) b l), omega arith)
+
+ring_hears : (words : List ℕ) (c line : ℕ) (v : SeatView) (d : ℕ) → bit_at (slice_index words c) line ≡ d → d < 2 → Hears words v (rung c (2 ^ line) (slice_index words c) v)
+ring_hears words c line v zero off small =
+    let clear : bit_and (slice_index words c) (2 ^ line) ≡ 0 = and_pow (slice_index words c) line ∙ rw off (omega arith) in
+    let test : (bit_and (slice_index words c) (2 ^ line) == 0) ≡ true = grind (arith, nat_tests) in
+    rw test (fresh_hears words c line v)
+ring_hears words c line v (suc zero) on small =
+    let set_there : bit_and (slice_index words c) (2 ^ line) ≡ 2 ^ line = and_pow (slice_index words c) line ∙ rw on (omega arith) in
+    let test : (bit_and (slice_index words c) (2 ^ line) == 0) ≡ false = grind (arith, nat_tests) in
+    rw test (stale_hears words c line v on)
+ring_hears words c line v (suc (suc d)) on small = absurd (omega arith)
+
 rung_weight : (c bit n : ℕ) (v : SeatView) → (rung c bit n v).weight ≡ v.weight
 rung_weight c bit n v = by_test (bit_and n bit == 0)
   where
-    by_test : (b : Bool) → (if b then view_of v.weight (v.fresh ++ (c, bit) ∷ []) v.taken else v).weight ≡ v.weight
+    by_test : (b : Bool) → (if b then view_of v.weight (v.fresh ++ (c, bit) ∷ []) v.stood v.taken else view_of v.weight v.fresh (v.stood ++ (c, bit) ∷ []) v.taken).weight ≡ v.weight
     by_test true = refl
     by_test false = refl
 
@@ -117,7 +172,7 @@ rings cpus slots id c line bit me is there small weighty s kept homes at word =
       rung c bit n v,
       keeps,
       tt,
-      rw is (one_step cpus s.words s.views id c (bit_or n (2 ^ line)) v (rung c (2 ^ line) n v) kept at there (or_below n line (kept.narrow c) small) weighty (rung_weight c (2 ^ line) n v) moves),
+      rw is (one_step cpus s.words s.views id c (bit_or n (2 ^ line)) v (rung c (2 ^ line) n v) kept at there (or_below n line (kept.narrow c) small) weighty (rung_weight c (2 ^ line) n v) moves (ring_hears s.words c line v (bit_at n line) refl (bit_at-lt n line))),
       refl,
     )
 
@@ -138,7 +193,7 @@ takes cpus slots id c me there weighty s kept homes at word =
       took c n v,
       keeps,
       tt,
-      one_step cpus s.words s.views id c 0 v (took c n v) kept at there (omega arith) weighty refl (take_moves s.words c v here),
+      one_step cpus s.words s.views id c 0 v (took c n v) kept at there (omega arith) weighty refl (take_moves s.words c v here) (same_hears s.words v (took c n v) refl refl),
       (refl, kept.narrow c),
     )
 
@@ -158,15 +213,18 @@ weighs cpus slots id me any few weighty s kept homes at word =
       v,
       keeps,
       tt,
-      one_step cpus s.words s.views id 0 (slice_index s.words 0) v v kept at any (kept.narrow 0) weighty refl (same_moves s.words 0 v here),
+      one_step cpus s.words s.views id 0 (slice_index s.words 0) v v kept at any (kept.narrow 0) weighty refl (same_moves s.words 0 v here) (same_hears s.words v v refl refl),
       (refl, omega (arith, kept.weighs, weight_below s.views id v at)),
     )
 
 -- ---- seats part and meet
+as_heard : (fresh fresh_new stood stood_new : ℕ) → (0 < stood → 0 < fresh) → fresh_new ≡ fresh → stood_new ≡ stood → 0 < stood_new → 0 < fresh_new
+as_heard fresh fresh_new stood stood_new heard f s found = let before : 0 < fresh = heard (omega arith) in omega arith
+
 pub parts : (cpus id : ℕ) (v : SeatView) (left given : SeatView) → 0 < left.weight → 0 < given.weight → left.weight + given.weight ≡ v.weight
-    → ((c l : ℕ) → count left.fresh c l + count given.fresh c l ≡ count v.fresh c l) → ((c l : ℕ) → count left.taken c l + count given.taken c l ≡ count v.taken c l)
+    → ((c l : ℕ) → count left.fresh c l + count given.fresh c l ≡ count v.fresh c l) → ((c l : ℕ) → count left.stood c l + count given.stood c l ≡ count v.stood c l) → ((c l : ℕ) → count left.taken c l + count given.taken c l ≡ count v.taken c l)
     → Splits (λ (s : State (Unit {0}) SeatView). AreAccounted cpus s.words s.views) id v left given
-parts cpus id v left given some_left some_given weights fresh taken s kept at =
+parts cpus id v left given some_left some_given weights fresh stood taken s kept at =
     let after = set s.views id left in record {
       sized = kept.sized;
       narrow = kept.narrow;
@@ -181,6 +239,14 @@ parts cpus id v left given some_left some_given weights fresh taken s kept at =
         total_snoc (λ u. count u.taken c l) after given,
         total_set (λ u. count u.taken c l) s.views id v left at,
       );
+      heard = λ c l. as_heard
+          (total (λ u. count u.fresh c l) s.views)
+          (total (λ u. count u.fresh c l) (after ++ given ∷ []))
+          (total (λ u. count u.stood c l) s.views)
+          (total (λ u. count u.stood c l) (after ++ given ∷ []))
+          (kept.heard c l)
+          (omega (arith, fresh c l, total_snoc (λ u. count u.fresh c l) after given, total_set (λ u. count u.fresh c l) s.views id v left at))
+          (omega (arith, stood c l, total_snoc (λ u. count u.stood c l) after given, total_set (λ u. count u.stood c l) s.views id v left at));
       idle = idle_snoc after given (λ none. absurd (omega arith)) (idle_set s.views id left (λ none. absurd (omega arith)) kept.idle);
     }
 
@@ -202,7 +268,15 @@ meets cpus id other v w some_weight s kept at apart there =
         total_set (λ u. count u.taken c l) once other w spent there,
         total_set (λ u. count u.taken c l) s.views id v both at,
       );
-      idle = idle_set once other spent (λ none. (refl, refl)) (idle_set s.views id both (λ none. absurd (omega arith)) kept.idle);
+      heard = λ c l. as_heard
+          (total (λ u. count u.fresh c l) s.views)
+          (total (λ u. count u.fresh c l) (set once other spent))
+          (total (λ u. count u.stood c l) s.views)
+          (total (λ u. count u.stood c l) (set once other spent))
+          (kept.heard c l)
+          (omega (arith, count-append v.fresh w.fresh c l, total_set (λ u. count u.fresh c l) once other w spent there, total_set (λ u. count u.fresh c l) s.views id v both at))
+          (omega (arith, count-append v.stood w.stood c l, total_set (λ u. count u.stood c l) once other w spent there, total_set (λ u. count u.stood c l) s.views id v both at));
+      idle = idle_set once other spent (λ none. (refl, refl, refl)) (idle_set s.views id both (λ none. absurd (omega arith)) kept.idle);
     }
 
 -- ---- the beginning
@@ -215,7 +289,8 @@ begins cpus words long zeros = record {
   narrow = λ c. rw (zeros c) (omega arith);
   weighs = omega arith;
   balance = λ c l. omega (arith, index_zeros words zeros c l);
-  idle = ((λ none. (refl, refl)), tt);
+  heard = λ c l found. absurd (omega arith);
+  idle = ((λ none. (refl, refl, refl)), tt);
 }
 
 -- ---- the end
@@ -242,7 +317,10 @@ nothing_fresh : (c l : ℕ) (v : SeatView) → WeighsNothing v → v.weight ≡ 
 nothing_fresh c l v idle light = ap (λ m. count m c l) (idle light).0
 
 nothing_taken : (c l : ℕ) (v : SeatView) → WeighsNothing v → v.weight ≡ 0 → count v.taken c l ≡ 0
-nothing_taken c l v idle light = ap (λ m. count m c l) (idle light).1
+nothing_taken c l v idle light = ap (λ m. count m c l) (idle light).2
+
+nothing_stood : (c l : ℕ) (v : SeatView) → WeighsNothing v → v.weight ≡ 0 → count v.stood c l ≡ 0
+nothing_stood c l v idle light = ap (λ m. count m c l) (idle light).1
 
 -- a view with all the weight knows that the bells balance
 pub settles : (cpus : ℕ) (words left : List ℕ) (views : List SeatView) (id : ℕ) (v : SeatView) → AreAccounted cpus words views → get_elem? views id ≡ some v → v.weight ≡ whole_weight cpus
@@ -256,3 +334,13 @@ settles cpus words left views id v kept at all same c l =
       alone (λ u. count u.taken c l) (nothing_taken c l) views id v kept.idle at weights,
       ap (λ (x : ℕ). bit_at x l) (same c),
     )
+
+-- .. and that what was found standing is answered
+pub answers : (cpus : ℕ) (words left : List ℕ) (views : List SeatView) (id : ℕ) (v : SeatView) → AreAccounted cpus words views → get_elem? views id ≡ some v → v.weight ≡ whole_weight cpus
+    → ((c : ℕ) → slice_index words c ≡ slice_index left c) → AreAnswered v.stood v.taken left
+answers cpus words left views id v kept at all same c l found =
+    let weights : total (λ u. u.weight) views ≡ v.weight = kept.weighs ∙ sym all in
+    let stood = alone (λ u. count u.stood c l) (nothing_stood c l) views id v kept.idle at weights in
+    let fresh = alone (λ u. count u.fresh c l) (nothing_fresh c l) views id v kept.idle at weights in
+    let before : 0 < total (λ u. count u.fresh c l) views = kept.heard c l (omega (arith, stood)) in
+    omega (arith, before, fresh, settles cpus words left views id v kept at all same c l)

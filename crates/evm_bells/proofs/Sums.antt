@@ -1,9 +1,9 @@
 -- Sums over views, and how one changed view changes them.
-use Rattle.std.proofs.Common.{◌≡◌, ℕ, zero, suc, ◌+◌, ◌*◌, ◌%◌, ◌^◌, ◌<◌, ◌≤◌, ◌≢◌, Bool, true, false, List, [], ◌∷◌, ◌++◌, length, set, get_or, cond, nat_eq, sym, refl, ap, ◌∙◌, subst, arith}
+use Rattle.std.proofs.Common.{◌≡◌, ℕ, zero, suc, ◌+◌, ◌≤◌, List, [], ◌∷◌, ◌++◌, set, sym, refl, ap, arith}
 use mathlib.Core.Option.{some, some-injective, some-ne-none}
 use lib.ListN.{get_elem?}
 use Rattle.evm_bells.specs.Batches.{Batch, count}
-use Rattle.evm_bells.specs.Rule.{total, WeighsNothing, WeighNothing, view_of}
+use Rattle.evm_bells.specs.Rule.{total, WeighsNothing, WeighNothing}
 use Rattle.evm_bells.specs.declared.rule.SeatView.{SeatView}
 
 pub total_set : (f : SeatView → ℕ) (views : List SeatView) (id : ℕ) (v w : SeatView) → get_elem? views id ≡ some v → total f (set views id w) + f v ≡ total f views + f w

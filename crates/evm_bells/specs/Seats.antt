@@ -13,11 +13,12 @@ pub record BellsValue : Type 0 where
   pub cpus : ℕ
   pub id : TableId
 
--- its bells, its weight, and what it has rung fresh
+-- its bells, its weight, what it has rung fresh, and what stood already when it was rung
 pub record RingerValue : Type 0 where
   pub bells : TableId
   pub weight : ℕ
   pub fresh : List Batch
+  pub stood : List Batch
 
 -- its bells, and what it has taken
 pub record TakerValue : Type 0 where
@@ -26,7 +27,7 @@ pub record TakerValue : Type 0 where
 
 -- a ringer of these bells and this weight that has rung nothing
 abbrev pub IsNewRinger : TableId → ℕ → RingerValue → Type 0
-IsNewRinger bells weight r = (r.bells ≡ bells) × (r.weight ≡ weight) × (r.fresh ≡ [])
+IsNewRinger bells weight r = (r.bells ≡ bells) × (r.weight ≡ weight) × (r.fresh ≡ []) × (r.stood ≡ [])
 
 -- a taker of these bells that has taken nothing
 abbrev pub IsNewTaker : TableId → TakerValue → Type 0
@@ -40,6 +41,10 @@ taken_by (t ∷ takers) = t.taken ++ taken_by takers
 -- each line that was rung fresh was taken or is left
 abbrev pub AddsUp : List Batch → List Batch → List ℕ → Type 0
 AddsUp fresh taken left = (c l : ℕ) → count fresh c l ≡ count taken c l + bit_at (slice_index left c) l
+
+-- each line that a ring found standing was taken or is left
+abbrev pub AreAnswered : List Batch → List Batch → List ℕ → Type 0
+AreAnswered stood taken left = (c l : ℕ) → 0 < count stood c l → 0 < count taken c l + bit_at (slice_index left c) l
 
 -- ---- invariants
 
@@ -63,6 +68,6 @@ pub record IsRinger (me : Me (Unit {0}) SeatView) (weight : ℕ) (rows : List (L
 -- a taker has rung nothing, and its counters have counted what it has taken
 pub record IsTaker (me : Me (Unit {0}) SeatView) (rows : List (List ℕ)) : Type 0 where
   pub weighs : me.0.weight ≡ 1
-  pub unrung : me.0.fresh ≡ []
+  pub unrung : (me.0.fresh ≡ []) × (me.0.stood ≡ [])
   pub empty : me.1 ≡ []
   pub counted : HaveCounted rows me.0.taken

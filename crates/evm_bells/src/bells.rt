@@ -56,7 +56,7 @@ impl Model for Ringer {
 
     ghost invariant = { λ r. IsRinger r.seat.me r.weight r.counts.rows };
 
-    ghost view = { λ r. record { bells = r.seat.table_id; weight = r.weight; fresh = r.seat.me.0.fresh } };
+    ghost view = { λ r. record { bells = r.seat.table_id; weight = r.weight; fresh = r.seat.me.0.fresh; stood = r.seat.me.0.stood } };
 }
 
 /// A seat that takes. It counts the lines that it has taken.
@@ -137,11 +137,12 @@ impl Bells {
         self.cpus
     }
 
-    /// Rings a line of a processor. It is fresh unless it stands already.
+    /// Rings a line of a processor. Returns whether it is fresh: it is unless the line stands already.
     pub fn ring(&self, ringer: &mut Ringer, cpu: u8, line: u8) -> bool
         requires place { (cpu < self.now.cpus) × (line < LINES) }
         requires bells { ringer.old.bells ≡ self.now.id }
         ensures fresh { MatchBool result (ringer.new.fresh ≡ ringer.old.fresh ++ (cpu, 2 ^ line) ∷ []) (ringer.new.fresh ≡ ringer.old.fresh) }
+        ensures stood { MatchBool result (ringer.new.stood ≡ ringer.old.stood) (ringer.new.stood ≡ ringer.old.stood ++ (cpu, 2 ^ line) ∷ []) }
         ensures same { (ringer.new.bells ≡ ringer.old.bells) × (ringer.new.weight ≡ ringer.old.weight) }
     {
         let bit = 1u64 << line;
@@ -183,7 +184,7 @@ impl Bells {
         requires { ringer.old.bells ≡ self.now.id }
         ensures given { MatchOption result (ringer.old.weight ≡ 1) (IsNewRinger self.now.id (ringer.old.weight / 2)) }
         ensures weight { MatchOption result (ringer.new.weight ≡ ringer.old.weight) (λ given. ringer.new.weight + given.weight ≡ ringer.old.weight) }
-        ensures same { (ringer.new.bells ≡ ringer.old.bells) × (ringer.new.fresh ≡ ringer.old.fresh) }
+        ensures same { (ringer.new.bells ≡ ringer.old.bells) × (ringer.new.fresh ≡ ringer.old.fresh) × (ringer.new.stood ≡ ringer.old.stood) }
     {
         let half = ringer.weight / 2;
         if half == 0 {
@@ -202,7 +203,7 @@ impl Bells {
     pub fn join(&self, ringer: &mut Ringer, other: Ringer)
         requires { (ringer.old.bells ≡ self.now.id) × (other.bells ≡ self.now.id) }
         ensures weight { ringer.new.weight ≡ ringer.old.weight + other.weight }
-        ensures fresh { ringer.new.fresh ≡ ringer.old.fresh ++ other.fresh }
+        ensures rung { (ringer.new.fresh ≡ ringer.old.fresh ++ other.fresh) × (ringer.new.stood ≡ ringer.old.stood ++ other.stood) }
         ensures same { ringer.new.bells ≡ ringer.old.bells }
     {
         let Ringer {

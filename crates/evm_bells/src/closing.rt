@@ -3,7 +3,7 @@
 ghost use Rattle.std.specs.Prelude.{◌≡◌, ◌↔◌, ◌+◌, ◌<◌, [], length, All, IsOk, IfOk, IfErr};
 ghost use Rattle.evm_bells.specs.Batches.{HaveCounted};
 ghost use Rattle.evm_bells.specs.Rule.{whole_weight};
-ghost use Rattle.evm_bells.specs.Seats.{TakerValue, AddsUp, taken_by};
+ghost use Rattle.evm_bells.specs.Seats.{TakerValue, AddsUp, AreAnswered, taken_by};
 
 use crate::bells::{Bells, RINGER_WEIGHT, Ringer, Taker};
 use crate::counts::{LineCounts, PROCESSOR_LIMIT};
@@ -33,6 +33,7 @@ impl Bells {
         requires takers { All (λ (t : TakerValue). t.bells ≡ self.id) takers.items }
         ensures all { IsOk result ↔ (ringer.weight + length takers.items ≡ whole_weight self.cpus) }
         ensures balance { IfOk result (λ closed. AddsUp ringer.fresh (taken_by takers.items) closed.left) }
+        ensures answered { IfOk result (λ closed. AreAnswered ringer.stood (taken_by takers.items) closed.left) }
         ensures fresh { IfOk result (λ closed. HaveCounted closed.fresh.rows ringer.fresh) }
         ensures taken { IfOk result (λ closed. HaveCounted closed.taken.rows (taken_by takers.items)) }
         ensures back { IfErr result (λ out. (out.bells ≡ self) × (out.ringer ≡ ringer) × (out.takers.items ≡ takers.items)) }
@@ -65,7 +66,7 @@ impl Bells {
         requires untaken { seat.old.me.0.taken ≡ [] }
         ensures bells { seat.new.table_id ≡ seat.old.table_id }
         ensures weight { seat.new.me.0.weight ≡ seat.old.me.0.weight + length takers.items }
-        ensures fresh { seat.new.me.0.fresh ≡ seat.old.me.0.fresh }
+        ensures rung { (seat.new.me.0.fresh ≡ seat.old.me.0.fresh) × (seat.new.me.0.stood ≡ seat.old.me.0.stood) }
         ensures taken { seat.new.me.0.taken ≡ taken_by takers.items }
         ensures counted { HaveCounted result.rows (taken_by takers.items) }
     {
@@ -85,7 +86,8 @@ impl Bells {
     fn left(self, seat: Seat<(), SeatView>) -> [u64; PROCESSOR_LIMIT]
         requires bells { seat.table_id ≡ self.id }
         requires all { seat.me.0.weight ≡ whole_weight self.cpus }
-        ensures { AddsUp seat.me.0.fresh seat.me.0.taken result }
+        ensures balance { AddsUp seat.me.0.fresh seat.me.0.taken result }
+        ensures answered { AreAnswered seat.me.0.stood seat.me.0.taken result }
     {
         let Bells { table, cpus } = self;
         let closed = table.close_with(seat);

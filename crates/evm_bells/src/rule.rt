@@ -3,10 +3,11 @@
 use atomic_table::{Join, Play, Split, TableRule};
 use std::collections::LinkedList;
 
-/// What a seat knows: its weight, and what it has rung fresh and taken. It has no value at run time.
+/// What a seat knows: its weight, what it has rung fresh or found standing, and what it has taken. It has no value at run time.
 pub struct SeatView {
     pub weight: u64,
     pub fresh: LinkedList<(u8, u64)>,
+    pub stood: LinkedList<(u8, u64)>,
     pub taken: LinkedList<(u8, u64)>,
 }
 

@@ -47,3 +47,7 @@ returns-in-Ok-clause-counters_since g c p l cpu low late pairs =
     let base = g.O.Origin.base in
     let sum : count c.args.ringer.fresh p l ≡ count_by (rings p l) (events_since base s.journal) + bit_at (slice_index c.in-Ok.closed.left p) l = omega (arith, returns-in-Ok-clause-rung g c p l low pairs, returns-in-Ok-clause-since g c p l late pairs) in
     exact_since s (rings p l) (event_total base) (slice_index c.in-Ok.closed.left p) l (counter c.in-Ok.closed.fresh.rows p l) (count c.args.ringer.fresh p l) c.rules.ensures.good (c.in-Ok.ensures.fresh p l cpu low) sum
+
+pub returns-in-Ok-clause-answered : goal.returns-in-Ok-clause-answered
+returns-in-Ok-clause-answered g c p l low stood late pairs =
+    omega (arith, c.in-Ok.ensures.answered p l stood, paired_lines p l c.args.ports.items c.args.takers.items low pairs, returns-in-Ok-clause-since g c p l late pairs)

@@ -35,7 +35,8 @@ loop-taker-preserved c =
       all = all_front P c.pop.new.self.items c.in-Some.taker (subst (All P) last i.all);
       weight = omega (arith, ap (λ (v : SeatView). v.weight) me, i.weight, t.weighs, ap length last, length-append c.pop.new.self.items (c.in-Some.taker ∷ []));
       weighty = omega (arith, ap (λ (v : SeatView). v.weight) me, i.weighty);
-      fresh = ap (λ (v : SeatView). v.fresh) me ∙ rw t.unrung (append-nil c.loop-taker.seat.me.0.fresh) ∙ i.fresh;
+      fresh = ap (λ (v : SeatView). v.fresh) me ∙ rw t.unrung.0 (append-nil c.loop-taker.seat.me.0.fresh) ∙ i.fresh;
+      stood = ap (λ (v : SeatView). v.stood) me ∙ rw t.unrung.1 (append-nil c.loop-taker.seat.me.0.stood) ∙ i.stood;
       taken = ap (λ (v : SeatView). taken_by c.pop.new.self.items ++ v.taken) me
           ∙ ap (λ (m : List Batch). taken_by c.pop.new.self.items ++ (m ++ c.loop-taker.seat.me.0.taken)) popped
           ∙ sym (taken_by-last c.pop.new.self.items c.in-Some.taker c.loop-taker.seat.me.0.taken)

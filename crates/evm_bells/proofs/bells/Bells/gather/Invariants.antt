@@ -11,6 +11,7 @@ invariant-loop-taker l = record {
   weight : l.seat.me.0.weight + length l.takers.items ≡ l.initial.seat.me.0.weight + length l.fn.takers.items;
   weighty : 0 < l.seat.me.0.weight;
   fresh : l.seat.me.0.fresh ≡ l.initial.seat.me.0.fresh;
+  stood : l.seat.me.0.stood ≡ l.initial.seat.me.0.stood;
   taken : taken_by l.takers.items ++ l.seat.me.0.taken ≡ taken_by l.fn.takers.items;
   counted : HaveCounted l.taken.rows l.seat.me.0.taken;
 }

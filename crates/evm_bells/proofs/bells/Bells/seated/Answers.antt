@@ -13,5 +13,5 @@ split_seat-requires c =
     let weight = ap (λ (m : Me (Unit {0}) SeatView). m.0.weight) c.loop.invariant.me in (
       c.loop.invariant.table ∙ sym (ap (λ (b : BellsValue). b.id) c.self.view_is),
       omega (arith, i.worded, i.any),
-      parts c.self.inside.table.shared.key c.loop.seat.id v (one_kept v) (one_given v) (omega (arith, weight)) (omega arith) (omega (arith, weight)) (λ cpu l. omega arith) (λ cpu l. omega arith),
+      parts c.self.inside.table.shared.key c.loop.seat.id v (one_kept v) (one_given v) (omega (arith, weight)) (omega arith) (omega (arith, weight)) (λ cpu l. omega arith) (λ cpu l. omega arith) (λ cpu l. omega arith),
     )

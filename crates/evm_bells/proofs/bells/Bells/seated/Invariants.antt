@@ -8,7 +8,7 @@ use Rattle.evm_bells.proofs.bells.Bells.seated.Given as goal
 abbrev pub invariant-loop : goal.invariant-loop
 invariant-loop l = record {
   table : l.seat.table_id ≡ l.fn.self.id;
-  me : l.seat.me ≡ (view_of (RINGER_WEIGHT + (l.fn.self.cpus - l.counter)) [] [], []);
+  me : l.seat.me ≡ (view_of (RINGER_WEIGHT + (l.fn.self.cpus - l.counter)) [] [] [], []);
   room : l.fn.self.cpus ≤ vec_capacity l.takers;
   count : length l.takers.items ≡ l.counter;
   takers : All (IsNewTaker l.fn.self.id) l.takers.items;

@@ -13,5 +13,5 @@ split_seat-given-requires c =
     let half = c.if-half-eq0.false in (
       ap (λ (x : RingerValue). x.bells) c.ringer.view_is ∙ c.requires ∙ sym (ap (λ (b : BellsValue). b.id) c.self.view_is),
       omega (arith, i.worded, i.any),
-      parts c.self.inside.table.shared.key seat.id v (half_kept v) (half_given v) (omega (arith, w)) (omega (arith, w)) (omega arith) (λ cpu l. omega arith) (λ cpu l. omega arith),
+      parts c.self.inside.table.shared.key seat.id v (half_kept v) (half_given v) (omega (arith, w)) (omega (arith, w)) (omega arith) (λ cpu l. omega arith) (λ cpu l. omega arith) (λ cpu l. omega arith),
     )
