@@ -103,11 +103,12 @@ fn eight_boxes(rt: HostRuntime) -> Result<(), Fail> {
     let alloc = rt.alloc();
     let mut boxes: Vec<Boxed> = Vec::new(alloc);
     for place in 0..BOXES {
-        match (BOXES - 1 - place) % 4 {
+        // the last is attached first
+        match place % 4 {
             0 => boxes.push(Box::new(alloc, Console::new(alloc)?)?)?,
-            1 => boxes.push(Box::new(alloc, MailRing::new(alloc)?)?)?,
+            1 => boxes.push(Box::new(alloc, Pins::new())?)?,
             2 => boxes.push(Box::new(alloc, MailList::new(alloc)?)?)?,
-            _ => boxes.push(Box::new(alloc, Pins::new())?)?,
+            _ => boxes.push(Box::new(alloc, MailRing::new(alloc)?)?)?,
         }
     }
     serve(&rt, boxes)
