@@ -1,14 +1,22 @@
 /* What a switch would cost if a processor held the registers of its current task: the two copies of a switch among 64
-   tasks, beside a switch that finds the registers where they are. Prints the least nanoseconds of each.
+   tasks, beside a switch that finds the registers where they are. Prints the least nanoseconds of each. The copies call
+   memcpy: GCC's own `rep movsq` takes twice as long.
 
-   cc -O2 -o /tmp/switch bench/switch.c && /tmp/switch */
+   cc -O2 -fno-builtin-memcpy -o /tmp/switch bench/switch.c && /tmp/switch
+   valgrind --tool=callgrind --callgrind-out-file=/tmp/out /tmp/switch && callgrind_annotate --inclusive=yes /tmp/out
+
+   The second line counts the instructions of by_copies and in_place, each of ROUNDS * SWITCHES switches: -DROUNDS=2 is
+   enough for it. */
 
 #include <stdint.h>
 #include <stdio.h>
+#include <string.h>
 #include <time.h>
 
 #define TASKS 64
+#ifndef ROUNDS
 #define ROUNDS 20
+#endif
 #define SWITCHES 2000000
 
 struct hart {
@@ -26,8 +34,8 @@ static double nanoseconds(void) {
 }
 
 __attribute__((noinline)) static void copy_out_and_in(int from, int to) {
-    tasks[from] = processor;
-    processor = tasks[to];
+    memcpy(&tasks[from], &processor, sizeof processor);
+    memcpy(&processor, &tasks[to], sizeof processor);
 }
 
 __attribute__((noinline)) static struct hart *find(int task) {

@@ -2,6 +2,7 @@
 //! with a growth behind the boot's refused (`rt try --test --fail-alloc N`) each answer stays.
 
 mod attaching;
+mod boxes;
 mod committing;
 mod gauge;
 mod lent;

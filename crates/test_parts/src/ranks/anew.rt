@@ -1,8 +1,8 @@
-//! Ranks and the best task of a processor, computed anew from the tasks and the mutexes.
+//! Ranks, and who runs on a processor, computed anew from the tasks and the mutexes.
 
-use evm_core::Machine;
+use evm_debug::Machine;
 use evm_devs::Pins;
-use evm_model::{Class, Mutex, Protocol, TASK_LIMIT, Task, TaskState, Wait};
+use evm_model::{Class, Mutex, Protocol, Stage, TASK_LIMIT, Task, TaskState, Wait};
 
 /// The ranks of all tasks, by their numbers.
 pub(super) type Ranks = [u16; TASK_LIMIT];
@@ -60,7 +60,8 @@ fn boosts(machine: &Machine<Pins>, u: u8) -> Option<u8> {
     }
 }
 
-fn rank_in(ranks: &Ranks, t: u8) -> u16 {
+/// The rank of a task; 0 if there is none.
+pub(super) fn rank_in(ranks: &Ranks, t: u8) -> u16 {
     match ranks.as_slice().get(usize::from(t)) {
         None => 0,
         Some(rank) => *rank,
@@ -135,8 +136,8 @@ fn runs_in_band(machine: &Machine<Pins>, c: u8, t: u8) -> bool {
     }
 }
 
-/// The in-band task of a processor of least stamp.
-pub(super) fn next_in_band(machine: &Machine<Pins>, c: u8) -> Option<u8> {
+// The in-band task of a processor of least stamp.
+fn next_in_band(machine: &Machine<Pins>, c: u8) -> Option<u8> {
     let mut next = None;
     for t in 0..machine.task_count() {
         if runs_in_band(machine, c, t) {
@@ -147,4 +148,101 @@ pub(super) fn next_in_band(machine: &Machine<Pins>, c: u8) -> Option<u8> {
         }
     }
     next
+}
+
+/// Who runs on a processor.
+#[derive(Clone, Copy)]
+pub(super) struct Place {
+    pub(super) current: Option<u8>,
+    /// Its in-band task, which runs where no out-of-band task does.
+    pub(super) in_band: Option<u8>,
+    /// The stamp of that.
+    stamp: u64,
+}
+
+/// Nobody runs.
+pub(super) const IDLE: Place = Place {
+    current: None,
+    in_band: None,
+    stamp: 0,
+};
+
+/// Who runs on a processor now.
+pub(super) fn place_of(machine: &Machine<Pins>, c: u8) -> Place {
+    let Some(cpu) = machine.cpu(c) else {
+        return IDLE;
+    };
+    let stamp = match cpu.in_band_task {
+        None => 0,
+        Some(t) => stamp_of(machine, t),
+    };
+    Place {
+        current: cpu.current,
+        in_band: cpu.in_band_task,
+        stamp,
+    }
+}
+
+// The in-band task that a processor had, unless it has left the stage or got a fresh stamp there.
+fn staying(machine: &Machine<Pins>, c: u8, before: &Place) -> Option<u8> {
+    let t = before.in_band?;
+    if runs_in_band(machine, c, t) && stamp_of(machine, t) == before.stamp {
+        Some(t)
+    } else {
+        None
+    }
+}
+
+/// Whether the out-of-band stage of a processor is stalled.
+pub(super) fn is_stalled(machine: &Machine<Pins>, c: u8) -> bool {
+    match machine.log(c, Stage::OutOfBand) {
+        None => false,
+        Some(log) => log.stalled,
+    }
+}
+
+// The out-of-band task that runs on a processor that has taken a step: the best, or while the stage is stalled the one that it had.
+fn oob_task(machine: &Machine<Pins>, ranks: &Ranks, c: u8, before: &Place) -> Option<u8> {
+    if !is_stalled(machine, c) {
+        return best_of(machine, ranks, c);
+    }
+    let t = before.current?;
+    if runs_oob(machine, c, t) {
+        Some(t)
+    } else {
+        None
+    }
+}
+
+/// Who runs on a processor that has taken a step, by who ran on it before.
+pub(super) fn settled(machine: &Machine<Pins>, ranks: &Ranks, c: u8, before: &Place) -> Place {
+    let stays = staying(machine, c, before);
+    if let Some(t) = oob_task(machine, ranks, c, before) {
+        return Place {
+            current: Some(t),
+            in_band: stays,
+            stamp: before.stamp,
+        };
+    }
+    let task = match stays {
+        None => next_in_band(machine, c),
+        Some(t) => Some(t),
+    };
+    Place {
+        current: task,
+        in_band: task,
+        stamp: before.stamp,
+    }
+}
+
+/// Whether these tasks run on the processors.
+pub(super) fn places_agree(machine: &Machine<Pins>, places: &[Place]) -> bool {
+    let mut agree = true;
+    let mut c = 0u8;
+    for place in places {
+        let now = place_of(machine, c);
+        agree = agree && now.current == place.current && now.in_band == place.in_band;
+        c = c.saturating_add(1);
+    }
+    agree
 }
