@@ -7,6 +7,7 @@ pub mod Lengths
 pub mod Memory
 pub mod Noted
 pub mod OneByOne
+pub mod Replayed
 pub mod Replays
 pub mod Runs
 pub mod SessionTexts

@@ -1,6 +1,7 @@
 //! The text of lines.
 
-ghost use Rattle.std.specs.Prelude.{◌≡◌, ◌++◌, ◌∷◌, [], OnOk, IfOk};
+ghost use Rattle.std.specs.Prelude.{◌≡◌, ◌++◌, ◌∷◌, [], OnOk, OnErr, IfOk};
+ghost use Rattle.evm_serve.specs.Memory.{MemoryRefused};
 ghost use Rattle.evm_serve.specs.Scripted.{script_of};
 
 use crate::plain::PlainLine;
@@ -8,21 +9,19 @@ use evm_room::{NoMemory, grow};
 use std::alloc::Global;
 
 // One line behind the others.
+#[tactic(auto, using(crate::proofs::Memory::memory))]
 fn push_line(text: &mut Vec<u8>, line: &[u8]) -> Result<(), NoMemory>
-    ensures { OnOk result (text.new.items ≡ text.old.items ++ (line.now ++ 10 ∷ [])) }
+    ensures ok { OnOk result (text.new.items ≡ text.old.items ++ (line.now ++ 10 ∷ [])) }
+    ensures refused { OnErr result MemoryRefused }
 {
-    let Some(more) = line.len().checked_add(1) else {
+    if let Err(refused) = grow(text, line.len() + 1) {
+        refused.within();
         return Err(NoMemory);
-    };
-    let Ok(()) = grow(text, more) else {
-        return Err(NoMemory);
-    };
+    }
     let Ok(()) = text.extend_from_slice(line) else {
-        return Err(NoMemory);
+        unreachable!();
     };
-    let Ok(()) = text.push(b'\n') else {
-        return Err(NoMemory);
-    };
+    text.push_reserved(b'\n');
     Ok(())
 }
 
@@ -32,7 +31,8 @@ fn push_line(text: &mut Vec<u8>, line: &[u8]) -> Result<(), NoMemory>
 ///
 /// Memory was refused.
 pub fn script_text(alloc: Global, lines: &[PlainLine]) -> Result<Vec<u8>, NoMemory>
-    ensures { IfOk result (λ text. text.items ≡ script_of lines.now) }
+    ensures text { IfOk result (λ text. text.items ≡ script_of lines.now) }
+    ensures refused { OnErr result MemoryRefused }
 {
     let mut text = Vec::new(alloc);
     for line in lines {

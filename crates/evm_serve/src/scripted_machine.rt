@@ -1,10 +1,9 @@
 //! A scripted machine: one that only lines of a script boot and change.
 
-ghost use Rattle.std.specs.Prelude.{◌≡◌, OnOk, OnErr, None};
+ghost use Rattle.std.specs.Prelude.{◌≡◌, OnOk, OnErr, None, option_copied};
 ghost use Rattle.std.specs.String.{string_bytes};
-ghost use Rattle.evm_serve.specs.ScriptedMachine.{IsDoneBy, LeavesMachine, NotedFrom};
+ghost use Rattle.evm_serve.specs.ScriptedMachine.{IsDoneBy, LeavesMachine, NotedFrom, ReplaysMachine, lines_done, machine_in};
 
-use crate::laws::text_is_script;
 use crate::notes::Notes;
 use crate::plain::PlainLine;
 use crate::session::Session;
@@ -76,7 +75,9 @@ impl<'a> ScriptedMachine<'a> {
     }
 
     /// The machine, if it is booted.
-    pub fn machine(&self) -> Option<&Machine<AnyDevice>> {
+    pub fn machine(&self) -> Option<&Machine<AnyDevice>>
+        ensures { option_copied result ≡ machine_in self.now.sitting }
+    {
         match &self.session {
             None => None,
             Some(session) => Some(session.machine()),
@@ -84,19 +85,26 @@ impl<'a> ScriptedMachine<'a> {
     }
 
     /// The lines that were done, the boot line first.
-    pub fn lines(&self) -> &[PlainLine] {
+    pub fn lines(&self) -> &[PlainLine]
+        ensures { result.now ≡ lines_done self.now.sitting }
+    {
         match &self.session {
             None => &[],
             Some(session) => session.lines(),
         }
     }
 
-    /// The lines that were done, each with a newline, are a script whose run makes the machine.
+    /// The lines that were done, each with a newline, are a script whose run makes the machine. The journal of the machine,
+    /// replayed with the image, makes it too.
     #[tactic(auto, using(crate::proofs::SessionTexts::leaves))]
     pub fn rules(&self)
-        ensures { LeavesMachine self.now.image self.now.sitting }
+        ensures script { LeavesMachine self.now.image self.now.sitting }
+        ensures journal { ReplaysMachine self.now.image self.now.sitting }
     {
         let _ = &self.image;
-        text_is_script();
+        match &self.session {
+            None => {}
+            Some(session) => session.machine().rules(),
+        }
     }
 }
