@@ -2,17 +2,17 @@
 //! `stages` of each processor are those that another body writes, which computes ranks anew, and by them who runs where. Commands of the
 //! debugger and the instructions before a call come beside them: after these, ranks and tasks are compared as numbers.
 
-mod anew;
 mod calls;
+mod recomputing;
 mod texts;
 
-use anew::{
-    IDLE, Place, Ranks, best_of, is_stalled, place_of, places_agree, rank_in, ranks_of, settled,
-};
 use calls::{Call, Generator, MUTEXES, OBJECTS, any_call, before_ecall, call_of, code_of, spawn};
 use evm_debug::{Event, Machine};
 use evm_devs::Pins;
 use evm_model::{Block, TaskState};
+use recomputing::{
+    IDLE, Place, Ranks, best_of, is_stalled, place_of, places_agree, rank_in, ranks_of, settled,
+};
 use std::alloc::Global;
 use std::test::Fail;
 use texts::{places_are_shown, ranks_are_shown};
@@ -64,7 +64,7 @@ fn stepping(machine: &Machine<Pins>, event: &Event<&Block>) -> Option<u8> {
 
 /// What is computed anew after an event.
 #[derive(Drop)]
-struct Anew {
+struct Recomputed {
     ranks: Ranks,
     places: Places,
 }
@@ -86,7 +86,7 @@ fn places_after(
 }
 
 // An event, and what is computed anew after it; None if it is refused.
-fn after(machine: &mut Machine<Pins>, event: Event<&Block>) -> Option<Anew> {
+fn after(machine: &mut Machine<Pins>, event: Event<&Block>) -> Option<Recomputed> {
     let before = places_of(machine);
     let stepped = stepping(machine, &event);
     if machine.apply(event).is_err() {
@@ -94,7 +94,7 @@ fn after(machine: &mut Machine<Pins>, event: Event<&Block>) -> Option<Anew> {
     }
     let ranks = ranks_of(machine);
     let places = places_after(machine, &ranks, &before, stepped);
-    Some(Anew { ranks, places })
+    Some(Recomputed { ranks, places })
 }
 
 // How many events an event is: 1, or 0 if it is refused. The views are those that are written anew.
@@ -115,7 +115,7 @@ fn happens(alloc: Global, machine: &mut Machine<Pins>, event: Event<&Block>) -> 
 }
 
 // Whether the machine has what was computed anew.
-fn agrees(machine: &Machine<Pins>, anew: &Anew) -> bool {
+fn agrees(machine: &Machine<Pins>, anew: &Recomputed) -> bool {
     let mut agrees = places_agree(machine, anew.places.as_slice());
     for t in 0..machine.task_count() {
         agrees = agrees && machine.rank(t) == rank_in(&anew.ranks, t);

@@ -1,6 +1,6 @@
 //! The texts of `rank` and `stages`, written by what is computed anew.
 
-use super::anew::{Place, Ranks, rank_in};
+use super::recomputing::{Place, Ranks, rank_in};
 use evm_debug::{Machine, View, view};
 use evm_devs::Pins;
 use evm_model::Stage;
