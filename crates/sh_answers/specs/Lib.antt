@@ -1,1 +1,2 @@
+pub mod Kept
 pub use Rattle.evm_serve.specs as evm_serve

@@ -1,7 +1,10 @@
 //! What a command answers, as text.
 
+ghost use Rattle.std.specs.Prelude.{◌≡◌, ◌++◌, [], OnOk};
+
 use evm_room::{NoMemory, grow};
 use std::alloc::Global;
+use std::marker::Model;
 
 /// The text of an answer.
 #[derive(Drop)]
@@ -9,21 +12,35 @@ pub struct Page {
     bytes: Vec<u8>,
 }
 
+impl Model for Page {
+    ghost use Rattle.std.specs.Prelude.{ℕ, List};
+
+    ghost Value = { List ℕ };
+
+    ghost view = { λ page. page.bytes.items };
+}
+
 impl Page {
     /// An empty page.
-    pub fn new(alloc: Global) -> Self {
+    pub fn new(alloc: Global) -> Self
+        ensures { result ≡ [] }
+    {
         Page {
             bytes: Vec::new(alloc),
         }
     }
 
     /// The text so far.
-    pub fn bytes(&self) -> &[u8] {
+    pub fn bytes(&self) -> &[u8]
+        ensures { result.now ≡ self.now }
+    {
         &self.bytes
     }
 
     /// Takes all of the text away.
-    pub fn clear(&mut self) {
+    pub fn clear(&mut self)
+        ensures { self.new ≡ [] }
+    {
         self.bytes.clear();
     }
 
@@ -33,7 +50,9 @@ impl Page {
     }
 
     /// Appends bytes.
-    pub fn put_bytes(&mut self, bytes: &[u8]) -> Result<(), NoMemory> {
+    pub fn put_bytes(&mut self, bytes: &[u8]) -> Result<(), NoMemory>
+        ensures { OnOk result (self.new ≡ self.old ++ bytes.now) }
+    {
         let Ok(()) = grow(&mut self.bytes, bytes.len()) else {
             return Err(NoMemory);
         };
@@ -44,7 +63,9 @@ impl Page {
     }
 
     /// Appends a text.
-    pub fn put(&mut self, text: &str) -> Result<(), NoMemory> {
+    pub fn put(&mut self, text: &str) -> Result<(), NoMemory>
+        ensures { OnOk result (self.new ≡ self.old ++ text.now) }
+    {
         self.put_bytes(text.as_bytes())
     }
 
