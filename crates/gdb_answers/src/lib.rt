@@ -4,6 +4,7 @@
 
 mod answering;
 mod carrying;
+mod dialogue;
 mod monitor;
 mod questions;
 mod response;
@@ -14,12 +15,13 @@ mod starting;
 mod target;
 mod words;
 
+pub use dialogue::{Dialogue, serve_gdb};
 pub use evm_model::CAPACITY_LIMIT;
 pub use evm_ram::SIZE_LIMIT;
 pub use gdb_tape::{
     Boot, Devices, Interrupts, Line, Machine, Refusal, begin, cut_line, read_line, write_journal,
 };
 pub use monitor::{LineEnd, run_line};
-pub use serving::{Ended, serve_gdb};
+pub use serving::Ended;
 pub use session::GdbSession;
 pub use sh_answers::Names;

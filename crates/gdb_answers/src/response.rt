@@ -31,7 +31,9 @@ pub(crate) struct Response {
 }
 
 /// An empty response.
-pub(crate) fn new_response(alloc: Global) -> Response {
+pub(crate) fn new_response(alloc: Global) -> Response
+    ensures { result.out.items ≡ [] }
+{
     Response {
         reply: Reply {
             told: String::new(alloc),

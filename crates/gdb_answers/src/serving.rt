@@ -1,4 +1,4 @@
-//! The server: bytes in, packets out.
+//! An item of what GDB sends, and what is written for it.
 
 ghost use Rattle.std.specs.Prelude.{◌≡◌, ◌≢◌, ◌++◌, ℕ, List, [], true, IfErr, IfOk, IfSome, OnOk, Option};
 ghost use Rattle.gdb_packets.specs.Framing.{framed};
@@ -12,14 +12,13 @@ ghost use Rattle.gdb_tape.specs.Tape.{KeepsTape};
 
 use crate::answering::answer;
 use crate::response::{Response, new_response, push_none, push_packets, push_sign};
-use crate::session::{Booting, GdbSession};
-use crate::starting::{has_reply, pause_of, waits_for_boot};
+use crate::session::GdbSession;
+use crate::starting::has_reply;
 use evm_room::NoMemory;
-use evm_streams::{ReadFault, Reading, Sink, Source, WriteFault, write_all};
-use gdb_packets::{Command, PacketItem, read_command, read_item};
-use gdb_tape::{Interrupts, has_going, processor_of, push_bytes, stop_all};
+use evm_streams::{ReadFault, Sink, WriteFault, write_all};
+use gdb_packets::{Command, PacketItem, read_command};
+use gdb_tape::{Interrupts, has_going, processor_of, stop_all};
 use std::alloc::Global;
-use std::mem;
 
 /// How a session ended.
 #[derive(Clone, Copy, Debug, PartialEq, Eq)]
@@ -49,15 +48,17 @@ pub(crate) struct Server<'a, I: Interrupts> {
 
 /// A packet and its answer.
 #[derive(Drop)]
-struct Exchange {
+pub(crate) struct Exchange {
     /// The payload of the packet that was read last.
-    payload: Vec<u8>,
+    pub(crate) payload: Vec<u8>,
     /// The answer to it.
-    response: Response,
+    pub(crate) response: Response,
 }
 
-// An exchange with nothing in it.
-fn new_exchange(alloc: Global) -> Exchange {
+/// An exchange with nothing in it.
+pub(crate) fn new_exchange(alloc: Global) -> Exchange
+    ensures { result.response.out.items ≡ [] }
+{
     Exchange {
         payload: Vec::new(alloc),
         response: new_response(alloc),
@@ -195,9 +196,9 @@ fn make_way(session: &mut GdbSession, item: PacketItem, payload: &[u8])
     }
 }
 
-// Answers an item.
+/// Answers an item.
 #[tactic(auto, using(gdb_tape::proofs::Keeping::keeps_same, gdb_tape::proofs::Keeping::keeps_more))]
-fn serve_item<W: Sink, I: Interrupts>(
+pub(crate) fn serve_item<W: Sink, I: Interrupts>(
     server: &Server<'_, I>,
     session: &mut GdbSession,
     item: PacketItem,
@@ -221,94 +222,4 @@ fn serve_item<W: Sink, I: Interrupts>(
         Ok(()) => Ok(()),
         Err(fault) => Err(Ended::WriteFailed(fault)),
     }
-}
-
-// Answers the items that are whole in some bytes: how many bytes are left. One for which the machine is to boot anew is left.
-#[tactic(auto, using(gdb_tape::proofs::Keeping::keeps_same, gdb_tape::proofs::Keeping::keeps_more))]
-fn serve_items<W: Sink, I: Interrupts>(
-    server: &Server<'_, I>,
-    session: &mut GdbSession,
-    bytes: &[u8],
-    exchange: &mut Exchange,
-    sink: &mut W,
-) -> Result<usize, Ended>
-    ensures kept { KeepsTape session.old.tape session.new.tape }
-{
-    let mut rest = bytes;
-    'items: for _ in 0..bytes.len() {
-        if session.over {
-            return Ok(0);
-        }
-        match read_item(rest, &mut exchange.payload) {
-            Err(_) => return Err(Ended::NoMemory),
-            Ok(None) => return Ok(rest.len()),
-            Ok(Some((item, after))) => {
-                if waits_for_boot(session, item, exchange.payload.as_slice()) {
-                    session.booting = Booting::Asked;
-                    return Ok(rest.len());
-                }
-                serve_item(server, session, item, exchange, sink)?;
-                rest = after;
-                session.booting = Booting::Idle;
-            }
-        }
-    }
-    Ok(rest.len())
-}
-
-// Reads some bytes behind those that are not answered.
-fn read_more<R: Source>(source: &mut R, heard: &mut Vec<u8>) -> Result<bool, Ended> {
-    let mut part = [0u8; 4_096];
-    match source.read(&mut part) {
-        Reading::Failed(cause) => Err(Ended::ReadFailed(ReadFault::Failed(cause))),
-        Reading::Bytes(0) => Ok(false),
-        Reading::Bytes(n) => match push_bytes(heard, &part[..n]) {
-            Ok(()) => Ok(true),
-            Err(_) => Err(Ended::NoMemory),
-        },
-    }
-}
-
-// Keeps the last bytes of a list alone.
-fn keep_last(heard: &mut Vec<u8>, left: usize) {
-    let len = heard.len();
-    if left < len {
-        heard.copy_within(len - left..len, 0);
-        heard.truncate(left);
-    }
-}
-
-/// Serves a session: reads what GDB sends until it leaves, or asks that the session be saved or the machine boots anew, and writes the
-/// answers. While the program goes on, the source says whether GDB asks that it be stopped.
-#[tactic(auto, using(gdb_tape::proofs::Keeping::keeps_same, gdb_tape::proofs::Keeping::keeps_more))]
-pub fn serve_gdb<R: Source + Interrupts, W: Sink>(
-    alloc: Global,
-    session: &mut GdbSession,
-    source: &mut R,
-    sink: &mut W,
-) -> Ended
-    ensures kept { KeepsTape session.old.tape session.new.tape }
-{
-    let mut exchange = new_exchange(alloc);
-    let mut heard = mem::replace(&mut session.heard, Vec::new(alloc));
-    'parts: for _ in 0..u64::MAX {
-        let server = Server {
-            alloc,
-            interrupts: &*source,
-        };
-        match serve_items(&server, session, heard.as_slice(), &mut exchange, sink) {
-            Ok(left) => keep_last(&mut heard, left),
-            Err(ended) => return ended,
-        }
-        if let Some(ended) = pause_of(session) {
-            session.heard = heard;
-            return ended;
-        }
-        match read_more(source, &mut heard) {
-            Ok(true) => {}
-            Ok(false) => return Ended::Left,
-            Err(ended) => return ended,
-        }
-    }
-    Ended::Left
 }

@@ -1,6 +1,8 @@
 //! A session: a machine at a place of its events, and what GDB has chosen.
 
+ghost use Rattle.gdb_answers.specs.Sessions.{IsMadeFrom};
 ghost use Rattle.gdb_tape.specs.Tape.{IsTape, KeepsTape};
+ghost use Rattle.gdb_tape.specs.gdb_driving.Kept.{KeepsJournal};
 ghost use Rattle.std.specs.Prelude.{◌≡◌, Option, OnErr, OnOk};
 
 use arrayvec::ArrayVec;
@@ -71,8 +73,6 @@ pub struct GdbSession {
     pub begin: u64,
     /// The name under which the session is to be saved; none if it is empty.
     pub save: String,
-    /// What GDB sent and is not answered yet, while the session is saved.
-    pub(crate) heard: Vec<u8>,
 }
 
 /// Each processor once.
@@ -98,12 +98,17 @@ fn first_task(machine: &Machine<AnyDevice>) -> u8 {
 
 impl GdbSession {
     /// A session with a machine that booted with an image of these names. Its processors are stopped.
+    #[tactic(auto, using(crate::proofs::Sessions::made_tape))]
     pub fn new(
         alloc: Global,
         image: Image,
         names: Names,
         mut machine: Machine<AnyDevice>,
-    ) -> GdbSession {
+    ) -> GdbSession
+        ensures sound { IsMadeFrom image machine → IsTape result.tape }
+        ensures image { result.tape.image ≡ image }
+        ensures machine { KeepsJournal machine result.tape.machine }
+    {
         let _ = stop_all(&mut machine);
         let looked = first_task(&machine);
         let turns = each_processor(machine.cpu_count());
@@ -130,7 +135,6 @@ impl GdbSession {
             told_full: false,
             begin,
             save: String::new(alloc),
-            heard: Vec::new(alloc),
         }
     }
 

@@ -3,6 +3,7 @@
 ghost use Rattle.std.specs.Prelude.{◌≡◌, ◌++◌, ℕ, List, OnOk, Option};
 ghost use Rattle.std.specs.List.{list_all};
 ghost use Rattle.gdb_answers.specs.Starting.{are_digits, asks_boot, begin_text, booted_text, has_reply, loads_program, may_boot, payload_boots, starting_text, waits_for_boot, writes_whole};
+ghost use Rattle.gdb_answers.specs.Turns.{pause};
 ghost use Rattle.gdb_packets.specs.Hexadecimal.{is_hexadecimal};
 ghost use Rattle.gdb_tape.specs.Tape.{KeepsTape};
 
@@ -159,12 +160,14 @@ pub(crate) fn waits_for_boot(session: &GdbSession, item: PacketItem, payload: &[
 }
 
 /// Why the server pauses behind the items that it has answered, if it does.
-pub(crate) fn pause_of(session: &GdbSession) -> Option<Ended> {
+pub(crate) fn pause_of(session: &GdbSession) -> Option<Ended>
+    ensures { result ≡ pause session.now }
+{
     if session.over {
         Some(Ended::Left)
     } else if !session.save.is_empty() {
         Some(Ended::Saves)
-    } else if session.booting == Booting::Asked {
+    } else if matches!(session.booting, Booting::Asked) {
         Some(Ended::Boots)
     } else {
         None

@@ -15,7 +15,9 @@ use evm_host::{
 use evm_ram::Image;
 use evm_serve::InputFault;
 use evm_streams::{ReadFault, Source};
-use gdb_answers::{Ended, GdbSession, Interrupts, Machine, Names, Refusal, begin, serve_gdb};
+use gdb_answers::{
+    Dialogue, Ended, GdbSession, Interrupts, Machine, Names, Refusal, begin, serve_gdb,
+};
 use gdb_packets::{Hearing, HearingEnd};
 use std::alloc::Global;
 
@@ -176,8 +178,9 @@ fn serve<S: System, I: Source + Interrupts>(
     input: &mut I,
     world: &mut World<S>,
 ) -> Ended {
+    let mut dialogue = Dialogue::new(alloc);
     'parts: for _ in 0..u64::MAX {
-        match serve_gdb(alloc, session, input, &mut world.output) {
+        match serve_gdb(alloc, session, &mut dialogue, input, &mut world.output) {
             Ended::Saves => {
                 let _ = save(alloc, session, world);
             }

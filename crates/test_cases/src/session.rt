@@ -7,7 +7,7 @@ use crate::peer::{Heard, Sent};
 use evm_command::program_devices;
 use evm_devs::AnyDevice;
 use evm_ram::Image;
-use gdb_answers::{Ended, GdbSession, Machine, serve_gdb};
+use gdb_answers::{Dialogue, Ended, GdbSession, Machine, serve_gdb};
 use std::alloc::Global;
 use std::io;
 use std::rt::Files;
@@ -53,8 +53,9 @@ fn serve(
     source: &mut Sent<'_>,
     heard: &mut Heard,
 ) -> io::Result<Ended> {
+    let mut dialogue = Dialogue::new(rt.alloc());
     'parts: for _ in 0..u64::MAX {
-        match serve_gdb(rt.alloc(), session, source, heard) {
+        match serve_gdb(rt.alloc(), session, &mut dialogue, source, heard) {
             Ended::Boots => boot_anew(rt, session, setting)?,
             ended => return Ok(ended),
         }
