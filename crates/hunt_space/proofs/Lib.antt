@@ -18,4 +18,3 @@ pub mod Walks
 pub mod Spared
 pub mod Closing
 pub mod Actors
-mod Stands

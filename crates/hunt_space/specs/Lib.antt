@@ -8,4 +8,3 @@ pub mod Going
 pub mod Searched
 pub mod Effects
 pub mod Passing
-pub mod Standing
