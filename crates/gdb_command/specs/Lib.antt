@@ -1,3 +1,2 @@
 pub mod Saved
 pub mod SessionEnds
-pub mod Sessions

@@ -1,9 +1,5 @@
 //! The machine that a session begins with: by the lines of a script, or by default.
 
-ghost use Rattle.std.specs.Prelude.{IfOk};
-ghost use Rattle.gdb_answers.specs.Sessions.{IsMadeFrom};
-ghost use Rattle.gdb_answers.specs.gdb_tape.gdb_driving.Kept.{KeepsJournal};
-
 use evm_devs::AnyDevice;
 use evm_host::{Sink, write_all};
 use evm_ram::Image;
@@ -29,14 +25,6 @@ pub(crate) enum NotBooted {
     Fault(InputFault),
     /// The script has no boot line.
     NoBoot,
-}
-
-/// A boot line, and the lines behind it.
-#[derive(Clone, Copy)]
-struct BootLine<'a> {
-    number: u64,
-    numbers: Boot,
-    rest: &'a [u8],
 }
 
 // Why the line of this number ends a script.
@@ -67,9 +55,7 @@ fn next_line(
     line: &[u8],
     machine: &mut Machine<AnyDevice>,
     text: &mut String,
-) -> Result<(), NotBooted>
-    ensures { KeepsJournal machine.old machine.new }
-{
+) -> Result<(), NotBooted> {
     match run_line(machine, line, text) {
         Err(_) => Err(NotBooted::NoMemory),
         Ok(LineEnd::Done) => Ok(()),
@@ -80,16 +66,13 @@ fn next_line(
 }
 
 // The lines behind the boot line. A view that can't be written is lost.
-#[tactic(auto, using(gdb_answers::proofs::Kept::keeps_same, gdb_answers::proofs::Kept::keeps_more))]
 fn run_rest<E: Sink>(
     alloc: Global,
     first: u64,
     script: &[u8],
     mut machine: Machine<AnyDevice>,
     errors: &mut E,
-) -> Result<Machine<AnyDevice>, NotBooted>
-    ensures { IfOk result (λ made. KeepsJournal machine made) }
-{
+) -> Result<Machine<AnyDevice>, NotBooted> {
     let mut text = String::new(alloc);
     let mut rest = script;
     let mut number = first;
@@ -105,49 +88,25 @@ fn run_rest<E: Sink>(
     Ok(machine)
 }
 
-// The machine of a boot line, and of those behind it.
-#[tactic(auto, using(gdb_answers::proofs::Sessions::made_first, gdb_answers::proofs::Sessions::made_more))]
-fn boot_and_run<E: Sink>(
-    alloc: Global,
-    boot: &BootLine<'_>,
-    image: &Image,
-    errors: &mut E,
-) -> Result<Machine<AnyDevice>, NotBooted>
-    ensures { IfOk result (λ made. IsMadeFrom image.now made) }
-{
-    match begin(alloc, image, boot.numbers) {
-        Ok(machine) => run_rest(
-            alloc,
-            boot.number.saturating_add(1),
-            boot.rest,
-            machine,
-            errors,
-        ),
-        Err(refusal) => Err(fault_of(boot.number, refusal)),
-    }
-}
-
 /// The machine that a script leaves.
 pub(crate) fn run_script<E: Sink>(
     alloc: Global,
     script: &[u8],
     image: &Image,
     errors: &mut E,
-) -> Result<Machine<AnyDevice>, NotBooted>
-    ensures { IfOk result (λ made. IsMadeFrom image.now made) }
-{
+) -> Result<Machine<AnyDevice>, NotBooted> {
     let mut rest = script;
     let mut number = 1u64;
     'lines: while let Some((line, after)) = cut_line(rest) {
         match first_line(number, line) {
             Err(fault) => return Err(fault),
             Ok(Some(numbers)) => {
-                let first = BootLine {
-                    number,
-                    numbers,
-                    rest: after,
+                return match begin(alloc, image, numbers) {
+                    Ok(machine) => {
+                        run_rest(alloc, number.saturating_add(1), after, machine, errors)
+                    }
+                    Err(refusal) => Err(fault_of(number, refusal)),
                 };
-                return boot_and_run(alloc, &first, image, errors);
             }
             Ok(None) => {}
         }

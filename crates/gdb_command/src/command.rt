@@ -1,10 +1,6 @@
 //! The word `gdb`, from what stands behind it to the exit status.
 
-ghost use Rattle.std.specs.Prelude.{IfOk};
-ghost use Rattle.gdb_answers.specs.Sessions.{IsMadeFrom};
-ghost use Rattle.gdb_answers.specs.gdb_tape.Tape.{IsTape, KeepsTape};
 ghost use Rattle.gdb_command.specs.SessionEnds.{SessionEnded, Unheard};
-ghost use Rattle.gdb_command.specs.Sessions.{Ran, begun};
 
 use crate::booting::{NotBooted, default_boot, run_script};
 use crate::saving::save;
@@ -62,15 +58,12 @@ fn not_booted<S: System>(
 }
 
 // The machine that boots by default.
-#[tactic(auto, using(gdb_answers::proofs::Sessions::made_first))]
 fn default_machine<S: System>(
     alloc: Global,
     name: &str,
     image: &Image,
     world: &mut World<S>,
-) -> Result<Machine<AnyDevice>, u8>
-    ensures { IfOk result (λ made. IsMadeFrom image.now made) }
-{
+) -> Result<Machine<AnyDevice>, u8> {
     match begin(alloc, image, default_boot()) {
         Ok(machine) => Ok(machine),
         Err(Refusal::NoMemory) => Err(memory_refused(PROGRAM, world)),
@@ -91,9 +84,7 @@ fn machine_of<S: System>(
     job: Job<'_>,
     image: &Image,
     world: &mut World<S>,
-) -> Result<Machine<AnyDevice>, u8>
-    ensures { IfOk result (λ made. IsMadeFrom image.now made) }
-{
+) -> Result<Machine<AnyDevice>, u8> {
     let Some(name) = job.script else {
         return default_machine(alloc, job.image, image, world);
     };
@@ -160,10 +151,12 @@ fn image_now<S: System>(alloc: Global, path: &str, world: &mut World<S>) -> Opti
 }
 
 // Boots a session anew with the image that the file has now, or keeps its machine where it has none.
-#[tactic(auto, using(gdb_answers::proofs::Sessions::stays_tape, gdb_answers::proofs::Sessions::anew_tape))]
-fn boot_anew<S: System>(alloc: Global, job: Job<'_>, session: &mut GdbSession, world: &mut World<S>)
-    ensures { KeepsTape session.old.tape session.new.tape }
-{
+fn boot_anew<S: System>(
+    alloc: Global,
+    job: Job<'_>,
+    session: &mut GdbSession,
+    world: &mut World<S>,
+) {
     session.keep();
     let Some(image) = image_now(alloc, job.image, world) else {
         return;
@@ -184,13 +177,9 @@ fn serve<S: System, I: Source + Interrupts>(
     session: &mut GdbSession,
     input: &mut I,
     world: &mut World<S>,
-) -> Ended
-    requires { IsTape session.old.tape }
-    ensures sound { IsTape session.new.tape }
-    ensures ran { Ran I.gives S.Output.takes result (begun input.old session.old world.old) input.new session.new world.new }
-{
+) -> Ended {
     let mut dialogue = Dialogue::new(alloc);
-    'parts: for part in 0..u64::MAX {
+    'parts: for _ in 0..u64::MAX {
         match serve_gdb(alloc, session, &mut dialogue, input, &mut world.output) {
             Ended::Saves => {
                 let _ = save(alloc, session, world);

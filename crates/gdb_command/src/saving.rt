@@ -2,13 +2,12 @@
 
 ghost use Rattle.std.specs.Prelude.{◌≡◌, ◌++◌, OnOk};
 ghost use Rattle.std.specs.String.{string_bytes};
-ghost use Rattle.gdb_answers.specs.sh_answers.Kept.{IsKept};
-ghost use Rattle.gdb_command.specs.Saved.{IsSaved, IsScriptOf};
+ghost use Rattle.gdb_command.specs.Saved.{IsKept, IsSaved};
 
 use crate::command::PROGRAM;
 use evm_host::{Ending, System, World, ended, memory_refused, not_created, write_all};
 use evm_room::push_text;
-use gdb_answers::{GdbSession, cut_line, write_journal};
+use gdb_answers::{GdbSession, write_journal};
 use std::alloc::Global;
 
 // Writes a file whose name ends so.
@@ -16,7 +15,7 @@ fn save_file<S: System>(
     alloc: Global,
     name: &str,
     ending: &str,
-    text: &[u8],
+    text: &str,
     world: &mut World<S>,
 ) -> Result<(), u8>
     ensures { OnOk result (IsKept S.creates S.Created.takes (name.now ++ ending.now) text.now world.old.files world.new.files) }
@@ -32,7 +31,7 @@ fn save_file<S: System>(
         Ok(file) => file,
         Err(fault) => return Err(not_created(path.as_str(), fault, &mut world.errors)),
     };
-    match write_all(&mut file, text) {
+    match write_all(&mut file, text.as_bytes()) {
         Ok(()) => Ok(()),
         Err(fault) => {
             let ending = Ending::WriteFailed(fault);
@@ -42,13 +41,10 @@ fn save_file<S: System>(
 }
 
 // The lines of a journal that are those of a script: all but the first.
-#[tactic(auto, using(crate::proofs::Running::script_behind, crate::proofs::Running::script_none))]
-fn script_of(journal: &[u8]) -> &[u8]
-    ensures { IsScriptOf journal.now result.now }
-{
-    match cut_line(journal) {
+fn script_of(journal: &str) -> &str {
+    match journal.split_once('\n') {
         Some((_, script)) => script,
-        None => journal,
+        None => "",
     }
 }
 
@@ -60,9 +56,8 @@ fn save_as<S: System>(alloc: Global, session: &GdbSession, world: &mut World<S>)
         return Err(memory_refused(PROGRAM, world));
     };
     let name = session.save.as_str();
-    let journal = text.as_bytes();
-    save_file(alloc, name, ".journal", journal, world)?;
-    save_file(alloc, name, ".script", script_of(journal), world)
+    save_file(alloc, name, ".journal", text.as_str(), world)?;
+    save_file(alloc, name, ".script", script_of(text.as_str()), world)
 }
 
 /// Saves the events up to the place of a session, as a journal and as a script, under the name that it is to be saved as.

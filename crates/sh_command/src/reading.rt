@@ -1,7 +1,5 @@
 //! Lines as they come: each is answered before the next is read.
 
-ghost use Rattle.std.specs.Prelude.{◌≡◌};
-
 use crate::answer::LineAnswer;
 use crate::shell::Shell;
 use crate::typing::History;
@@ -42,9 +40,7 @@ fn answer<W: Sink, M: Meter + Drop>(
     number: u64,
     line: &[u8],
     output: &mut W,
-) -> Result<(), Finish>
-    ensures { shell.new.scripted.image ≡ shell.old.scripted.image }
-{
+) -> Result<(), Finish> {
     let mut answer = LineAnswer::new(alloc, number);
     let told = shell.line(line, &mut answer);
     if let Err(fault) = write_all(output, answer.bytes()) {
@@ -64,9 +60,7 @@ fn answer_typed<W: Sink, M: Meter + Drop>(
     number: u64,
     keys: &[u8],
     output: &mut W,
-) -> Result<(), Finish>
-    ensures { shell.new.scripted.image ≡ shell.old.scripted.image }
-{
+) -> Result<(), Finish> {
     let line = history.typed(alloc, keys)?;
     history.keep(alloc, line.as_slice())?;
     shell.echo(line.as_slice() != keys);
@@ -81,9 +75,7 @@ fn answer_next<W: Sink, M: Meter + Drop>(
     number: u64,
     line: &[u8],
     output: &mut W,
-) -> Result<(), Finish>
-    ensures { shell.new.scripted.image ≡ shell.old.scripted.image }
-{
+) -> Result<(), Finish> {
     match history {
         None => answer(alloc, shell, number, line, output),
         Some(history) => answer_typed(alloc, shell, history, number, line, output),
@@ -97,9 +89,7 @@ fn answer_whole<W: Sink, M: Meter + Drop>(
     mut history: Option<&mut History>,
     pending: Pending,
     output: &mut W,
-) -> Result<Pending, Finish>
-    ensures { shell.new.scripted.image ≡ shell.old.scripted.image }
-{
+) -> Result<Pending, Finish> {
     let mut number = pending.number;
     let mut rest = pending.bytes.as_slice();
     while let Some((line, after)) = cut_ended(rest) {
@@ -140,9 +130,7 @@ pub fn serve_lines<R: Source, W: Sink, E: Sink, M: Meter + Drop>(
     source: &mut R,
     output: &mut W,
     errors: &mut E,
-) -> Result<(), Finish>
-    ensures { shell.new.scripted.image ≡ shell.old.scripted.image }
-{
+) -> Result<(), Finish> {
     let mut pending = Pending {
         bytes: Vec::new(alloc),
         number: 1,

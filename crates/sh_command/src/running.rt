@@ -1,7 +1,6 @@
 //! Commands that drive the machine, each by plain lines.
 
-ghost use Rattle.std.specs.Prelude.{◌≡◌, ◌<◌, ◌≤◌, IfOk, IfSome, true};
-ghost use Rattle.sh_command.specs.Saved.{ShowsLine};
+ghost use Rattle.std.specs.Prelude.{◌<◌, ◌≤◌, IfSome};
 
 use crate::answer::LineAnswer;
 use crate::shell::{Outcome, Shell};
@@ -60,10 +59,7 @@ impl<M: Meter + Drop> Shell<'_, M> {
         &mut self,
         line: &[u8],
         answer: &mut LineAnswer,
-    ) -> Result<bool, NoMemory>
-        ensures image { self.new.scripted.image ≡ self.old.scripted.image }
-        ensures done { IfOk result (λ done. done ≡ true → ShowsLine line.now self.old.scripted self.new.scripted answer.old.page answer.new.page) }
-    {
+    ) -> Result<bool, NoMemory> {
         let alloc = answer.alloc;
         let mut text = String::new(alloc);
         match self.scripted.run(alloc, line, &mut text, &mut self.notes) {
@@ -107,9 +103,7 @@ impl<M: Meter + Drop> Shell<'_, M> {
         before: Option<&Snapshot>,
         swallowed: Option<Swallowed>,
         page: &mut Page,
-    ) -> Result<(), NoMemory>
-        ensures { self.new.scripted.image ≡ self.old.scripted.image }
-    {
+    ) -> Result<(), NoMemory> {
         if let Some(machine) = self.scripted.machine()
             && let Some(before) = before
         {
@@ -124,9 +118,11 @@ impl<M: Meter + Drop> Shell<'_, M> {
     }
 
     /// A line of a script, with names.
-    pub(crate) fn plain(&mut self, text: &str, answer: &mut LineAnswer) -> Result<Outcome, NoMemory>
-        ensures { self.new.scripted.image ≡ self.old.scripted.image }
-    {
+    pub(crate) fn plain(
+        &mut self,
+        text: &str,
+        answer: &mut LineAnswer,
+    ) -> Result<Outcome, NoMemory> {
         let mut line = Page::new(answer.alloc);
         put_plain(&mut line, &self.names, text)?;
         let before = self.shot(answer.alloc)?;
@@ -160,18 +156,14 @@ impl<M: Meter + Drop> Shell<'_, M> {
     }
 
     // Steps of a processor, as a plain line.
-    fn steps(&mut self, c: u8, count: u64, answer: &mut LineAnswer) -> Result<bool, NoMemory>
-        ensures { self.new.scripted.image ≡ self.old.scripted.image }
-    {
+    fn steps(&mut self, c: u8, count: u64, answer: &mut LineAnswer) -> Result<bool, NoMemory> {
         let mut line = Page::new(answer.alloc);
         put_steps(&mut line, c, count)?;
         self.run_plain(line.bytes(), answer)
     }
 
     // A step of each processor.
-    fn round(&mut self, cpus: u8, answer: &mut LineAnswer) -> Result<bool, NoMemory>
-        ensures { self.new.scripted.image ≡ self.old.scripted.image }
-    {
+    fn round(&mut self, cpus: u8, answer: &mut LineAnswer) -> Result<bool, NoMemory> {
         for c in 0..cpus {
             if !self.steps(c, 1, answer)? {
                 return Ok(false);
@@ -180,9 +172,7 @@ impl<M: Meter + Drop> Shell<'_, M> {
         Ok(true)
     }
 
-    fn rounds(&mut self, cpus: u8, count: u64, answer: &mut LineAnswer) -> Result<(), NoMemory>
-        ensures { self.new.scripted.image ≡ self.old.scripted.image }
-    {
+    fn rounds(&mut self, cpus: u8, count: u64, answer: &mut LineAnswer) -> Result<(), NoMemory> {
         if cpus == 1 {
             let _done = self.steps(0, count, answer)?;
             return Ok(());
@@ -197,9 +187,11 @@ impl<M: Meter + Drop> Shell<'_, M> {
     }
 
     /// `each N`: N rounds over all processors.
-    pub(crate) fn each(&mut self, rest: &str, answer: &mut LineAnswer) -> Result<Outcome, NoMemory>
-        ensures { self.new.scripted.image ≡ self.old.scripted.image }
-    {
+    pub(crate) fn each(
+        &mut self,
+        rest: &str,
+        answer: &mut LineAnswer,
+    ) -> Result<Outcome, NoMemory> {
         let Some(count) = rounds_of(rest) else {
             return Ok(Outcome::Wanted(EACH_FORM));
         };
@@ -222,9 +214,7 @@ impl<M: Meter + Drop> Shell<'_, M> {
         condition: Condition,
         bound: u64,
         answer: &mut LineAnswer,
-    ) -> Result<Option<u64>, NoMemory>
-        ensures { self.new.scripted.image ≡ self.old.scripted.image }
-    {
+    ) -> Result<Option<u64>, NoMemory> {
         for done in 0..bound {
             let Some(machine) = self.scripted.machine() else {
                 return Ok(None);
@@ -244,9 +234,7 @@ impl<M: Meter + Drop> Shell<'_, M> {
         }
     }
 
-    fn say_rounds(&mut self, reached: Option<u64>, page: &mut Page) -> Result<(), NoMemory>
-        ensures { self.new.scripted.image ≡ self.old.scripted.image }
-    {
+    fn say_rounds(&mut self, reached: Option<u64>, page: &mut Page) -> Result<(), NoMemory> {
         match reached {
             Some(rounds) => {
                 page.put("  reached after ")?;
@@ -261,9 +249,11 @@ impl<M: Meter + Drop> Shell<'_, M> {
     }
 
     /// `until CONDITION [within N]`: rounds over all processors until a condition holds, or N of them.
-    pub(crate) fn until(&mut self, rest: &str, answer: &mut LineAnswer) -> Result<Outcome, NoMemory>
-        ensures { self.new.scripted.image ≡ self.old.scripted.image }
-    {
+    pub(crate) fn until(
+        &mut self,
+        rest: &str,
+        answer: &mut LineAnswer,
+    ) -> Result<Outcome, NoMemory> {
         let (words, bound) = match rest.split_once(" within ") {
             None => (rest, Some(ROUNDS)),
             Some((words, bound)) => (words, rounds_of(bound)),

@@ -1,7 +1,5 @@
 //! The shell: a line, and what it answers.
 
-ghost use Rattle.std.specs.Prelude.{◌≡◌, IfOk};
-
 use crate::answer::LineAnswer;
 use crate::cases::Cases;
 use crate::commands::{Suggestion, UNKNOWN, missing_in, suggest};
@@ -53,9 +51,7 @@ impl<'a, M: Meter + Drop> Shell<'a, M> {
     /// # Errors
     ///
     /// Memory was refused.
-    pub fn new(alloc: Global, image: &'a Image, names: Names, meter: M) -> Result<Self, NoMemory>
-        ensures { IfOk result (λ shell. shell.scripted.image ≡ image.now) }
-    {
+    pub fn new(alloc: Global, image: &'a Image, names: Names, meter: M) -> Result<Self, NoMemory> {
         let notes = Notes::new(alloc)?;
         Ok(Shell {
             scripted: ScriptedMachine::new(image),
@@ -72,9 +68,7 @@ impl<'a, M: Meter + Drop> Shell<'a, M> {
     }
 
     /// From now on a line is shown before its answer, or not.
-    pub(crate) fn echo(&mut self, is_echoing: bool)
-        ensures { self.new.scripted.image ≡ self.old.scripted.image }
-    {
+    pub(crate) fn echo(&mut self, is_echoing: bool) {
         self.is_echoing = is_echoing;
     }
 
@@ -84,16 +78,12 @@ impl<'a, M: Meter + Drop> Shell<'a, M> {
     }
 
     /// The scripted machine, with the machine and the lines of a script that made it.
-    pub fn scripted(&self) -> &ScriptedMachine<'a>
-        ensures { result.now ≡ self.now.scripted }
-    {
+    pub fn scripted(&self) -> &ScriptedMachine<'a> {
         &self.scripted
     }
 
     // A command, from its keyword and the words behind it.
-    fn command(&mut self, text: &str, answer: &mut LineAnswer) -> Result<Outcome, NoMemory>
-        ensures { self.new.scripted.image ≡ self.old.scripted.image }
-    {
+    fn command(&mut self, text: &str, answer: &mut LineAnswer) -> Result<Outcome, NoMemory> {
         let (keyword, rest) = split_word(text);
         match keyword {
             "each" => self.each(rest, answer),
@@ -120,9 +110,7 @@ impl<'a, M: Meter + Drop> Shell<'a, M> {
         word: &str,
         behind: &str,
         answer: &mut LineAnswer,
-    ) -> Result<(), NoMemory>
-        ensures { self.new.scripted.image ≡ self.old.scripted.image }
-    {
+    ) -> Result<(), NoMemory> {
         self.failed = true;
         let page = &mut answer.page;
         page.put("! line:")?;
@@ -134,16 +122,12 @@ impl<'a, M: Meter + Drop> Shell<'a, M> {
         page.put("\n")
     }
 
-    fn blame(&mut self, words: &str, answer: &mut LineAnswer) -> Result<(), NoMemory>
-        ensures { self.new.scripted.image ≡ self.old.scripted.image }
-    {
+    fn blame(&mut self, words: &str, answer: &mut LineAnswer) -> Result<(), NoMemory> {
         self.blame_word(words, "", "", answer)
     }
 
     // Whether a line is not done since it has no such command or no such symbol, which the page says then.
-    fn is_unknown(&mut self, text: &str, answer: &mut LineAnswer) -> Result<bool, NoMemory>
-        ensures { self.new.scripted.image ≡ self.old.scripted.image }
-    {
+    fn is_unknown(&mut self, text: &str, answer: &mut LineAnswer) -> Result<bool, NoMemory> {
         let (keyword, rest) = split_word(text);
         match suggest(keyword) {
             Suggestion::Known => {}
@@ -173,9 +157,7 @@ impl<'a, M: Meter + Drop> Shell<'a, M> {
     /// # Errors
     ///
     /// Memory was refused. The machine is as the lines say that were done.
-    pub fn line(&mut self, line: &[u8], answer: &mut LineAnswer) -> Result<(), NoMemory>
-        ensures { self.new.scripted.image ≡ self.old.scripted.image }
-    {
+    pub fn line(&mut self, line: &[u8], answer: &mut LineAnswer) -> Result<(), NoMemory> {
         let Ok(text) = std::str::from_utf8(line) else {
             return self.blame("bad line: no UTF-8", answer);
         };
