@@ -1,4 +1,5 @@
 pub mod AlikeBoards
 pub mod Boards
 pub mod Equal
+mod SameBytes
 pub mod Words

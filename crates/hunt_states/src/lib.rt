@@ -3,6 +3,7 @@
 #![tactic(auto)]
 
 mod alike;
+mod bytes;
 mod hashing;
 mod lists;
 mod marks;

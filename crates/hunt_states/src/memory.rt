@@ -4,6 +4,7 @@ ghost use Rattle.std.specs.Prelude.{◌≡◌, ◌<◌, ℕ, true, length};
 ghost use Rattle.evm_core.specs.Views.{device_word};
 ghost use Rattle.hunt_states.specs.Same.{AreSameMemories};
 
+use crate::bytes::same_bytes;
 use evm_core::Machine;
 use evm_dev::Device;
 use evm_model::CONSOLE_LIMIT;
@@ -16,7 +17,7 @@ fn same_ram<D: Device>(a: &Machine<D>, b: &Machine<D>, size: u64) -> bool
     ensures { result ≡ true → a.now.board.memory.ram ≡ b.now.board.memory.ram }
 {
     match (a.bytes(BASE, size), b.bytes(BASE, size)) {
-        (Some(a), Some(b)) => a == b,
+        (Some(a), Some(b)) => same_bytes(a, b),
         _ => false,
     }
 }
