@@ -18,3 +18,4 @@ pub mod Walks
 pub mod Spared
 pub mod Closing
 pub mod Actors
+mod Stands

@@ -17,6 +17,7 @@ use Rattle.hunt_space.specs.Exploring.{ComesOfAttempt, EndsPath, LeadsSafely}
 use Rattle.hunt_space.specs.Going.{ComesOfTurn, ComesOfVisit, HasExplored, HasGone, HasGoneOn, EndsByTurn, IsNumbered, Knows, LeadsTo, Opens, BeginsSearch}
 use Rattle.hunt_space.specs.Passing.{ComesOfRow, IsVisiting, PassesRows}
 use Rattle.hunt_space.specs.Space.{IsAt, IsGone, IsKnown, KeepsPaths, KeepsPlaces, StaysKnown}
+use Rattle.hunt_space.specs.Standing.{BeginsAfresh}
 use Rattle.hunt_space.specs.declared.attempt.Attempt.{Attempt}
 use Rattle.hunt_space.specs.declared.attempt.Attempt.TheVariants.{Harmless, Fails, Refused}
 use Rattle.hunt_space.specs.declared.clock.TickBound.{TickBound}
@@ -25,7 +26,7 @@ use Rattle.hunt_space.specs.declared.path.Path.{Path}
 use Rattle.hunt_space.specs.declared.seeing.Arrival.TheVariants.{First, Again}
 use Rattle.hunt_space.specs.declared.visited.StatePlace.{StatePlace}
 use Rattle.hunt_space.proofs.Progress.{passes-on, are-done-still, covered-still, finishes, last-place, length-last, made-stays, places-more, places-same}
-use Rattle.hunt_space.proofs.Reaching.{at-choice, at-next, at-none, at-steps, no-events, one-boot}
+use Rattle.hunt_space.proofs.Reaching.{at-choice, at-next, at-none, no-events, one-boot}
 
 -- ---- a path under way
 -- once the next state is known, so is the one from which the path went on, and all places are explored
@@ -167,25 +168,25 @@ gone-root wanted clock first s paths places turns none same known = record {
   last = λ front turn t e at. absurd (no-end front turn (sym e ∙ none));
 }
 
--- turns but the last, and the steps of the last
-turns-lead : (going : Going) (front : List CpuTurn) (last : CpuTurn) (s t before : State) → BeginsSearch going s → t ≡ replay s (events_of_turns front) → before ≡ replay t (replicate last.steps (Step last.cpu)) → (first : State) → BeginsSearch going first
+-- the state from which the last turn's event comes
+forks-there : (going : Going) (front : List CpuTurn) (last : CpuTurn) (kept before : State) → BeginsAfresh going → IsAt going.first.now front last.cpu last.steps kept → before ≡ kept → (first : State) → BeginsSearch going first
     → IsAt first front last.cpu last.steps before
-turns-lead going front last s t before starts turned stepped first starts' =
-    let same = one-boot going.target.image.now going.target.boot.now s first starts starts' in
-    at-steps first t before front last.cpu last.steps (subst (λ (x : State). t ≡ replay x (events_of_turns front)) same turned) stepped
+forks-there going front last kept before starts at same first starts' =
+    let one = one-boot going.target.image.now going.target.boot.now going.first.now first starts.begins starts' in
+    subst (λ (s : State). IsAt s front last.cpu last.steps before) one (subst (λ (s : State). IsAt going.first.now front last.cpu last.steps s) (sym same) at)
 
-pub comes-of-turn : (going : Going) (front : List CpuTurn) (last : CpuTurn) (s t before after : State) (attempt : Attempt) → going.path.now.turns.items ≡ front ++ last ∷ [] → BeginsSearch going s → t ≡ replay s (events_of_turns front)
-    → before ≡ replay t (replicate last.steps (Step last.cpu)) → ComesOfAttempt going.target.wanted.now before (event_of_choice last.choice) after attempt → ComesOfTurn going after attempt
-comes-of-turn going front last s t before after Harmless turns starts turned stepped made = λ first starts'. record {
+pub comes-of-turn : (going : Going) (front : List CpuTurn) (last : CpuTurn) (kept before after : State) (attempt : Attempt) → going.path.now.turns.items ≡ front ++ last ∷ [] → BeginsAfresh going → IsAt going.first.now front last.cpu last.steps kept → before ≡ kept
+    → ComesOfAttempt going.target.wanted.now before (event_of_choice last.choice) after attempt → ComesOfTurn going after attempt
+comes-of-turn going front last kept before after Harmless turns starts at same made = λ first starts'. record {
   front = front;
   turn = last;
   before = before;
   turns = turns;
-  reached = turns-lead going front last s t before starts turned stepped first starts';
+  reached = forks-there going front last kept before starts at same first starts';
   leads = made;
 }
-comes-of-turn going front last s t before after (Fails failure) turns starts turned stepped made = made
-comes-of-turn going front last s t before after Refused turns starts turned stepped made = tt
+comes-of-turn going front last kept before after (Fails failure) turns starts at same made = made
+comes-of-turn going front last kept before after Refused turns starts at same made = tt
 
 none-left : (turns : List CpuTurn) → length turns ≡ 0 → turns ≡ []
 none-left [] none = refl

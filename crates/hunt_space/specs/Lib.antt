@@ -8,3 +8,4 @@ pub mod Going
 pub mod Searched
 pub mod Effects
 pub mod Passing
+pub mod Standing

@@ -6,6 +6,7 @@ ghost use Rattle.evm_model.specs.declared.event.Event.{Event};
 ghost use Rattle.hunt_space.specs.Runs.{MayTick};
 ghost use Rattle.hunt_space.specs.Space.{AreAlikeStates, CallsNone, FitsClock};
 
+use crate::hashing::whole_hash;
 use hunt_schedules::{AnyDevice, Machine};
 use hunt_states::{
     Trail, alike_hash_of, are_alike, are_alike_timeless, has_no_times, may_call_clock,
@@ -60,10 +61,11 @@ impl TickBound {
 
     /// The hash of a machine: the same for machines that are alike.
     pub(crate) fn hash(self, machine: &Machine<AnyDevice>, trail: &Trail) -> u64 {
-        match self {
+        let hash = match self {
             TickBound::AtMost(_) => alike_hash_of(machine, 0, trail),
             TickBound::Free => timeless_hash_of(machine, 0, trail),
-        }
+        };
+        whole_hash(machine, hash)
     }
 
     // Whether a step of a processor may read the clock or name a time, where any number of ticks may come.

@@ -18,6 +18,8 @@ pub(crate) struct Going<'a> {
     pub(crate) path: &'a Path,
     /// The number of the path.
     pub(crate) number: u32,
+    /// The machine that has had no event.
+    pub(crate) first: &'a Machine<AnyDevice>,
 }
 
 /// A machine that a path has reached by some steps.

@@ -25,6 +25,7 @@ fn pass_row(
 ) -> Result<bool, NoMemory>
     ensures keeps { KeepsPlaces visited.old.places.items visited.new.places.items }
     ensures comes { IfOk result (λ passed. ComesOfRow going.now steps machine.old machine.new visited.old.places.items visited.new.places.items passed) }
+    ensures seen { visited.new.seen ≡ visited.old.seen }
     ensures few { IfOk result (λ passed. passed ≡ true → steps < 4294967295) }
     ensures replays { (first : State) → IsReplayOf first machine.old → IsReplayOf first machine.new }
 {
@@ -62,6 +63,7 @@ pub(crate) fn pass_rows(
 ) -> Result<u32, NoMemory>
     requires { LeadsTo going.now from machine.old }
     ensures keeps { KeepsPlaces visited.old.places.items visited.new.places.items }
+    ensures seen { visited.new.seen ≡ visited.old.seen }
     ensures leads { IfOk result (λ to. LeadsTo going.now to machine.new) }
     ensures passes { IfOk result (λ to. PassesRows going.now visited.old.places.items visited.new.places.items from to machine.old machine.new) }
     ensures replays { (first : State) → IsReplayOf first machine.old → IsReplayOf first machine.new }

@@ -2,21 +2,25 @@
 
 ghost use Rattle.std.specs.Prelude.{◌≡◌, ◌≤◌, ◌<◌, ◌∷◌, [], ℕ, false, true, length, slice_get, IfOk, OnOk, Option};
 ghost use Rattle.evm_model.specs.Good.{GoodState};
+ghost use Rattle.evm_model.specs.Replay.{IsReplayOf};
 ghost use Rattle.evm_model.specs.State.{State};
+ghost use Rattle.hunt_schedules.specs.Beginning.{Begins};
 ghost use Rattle.hunt_search.specs.Hunts.{AreFound};
 ghost use Rattle.hunt_space.specs.Going.{HasGone, IsNumbered, BeginsSearch};
 ghost use Rattle.hunt_space.specs.Runs.{NeverFailsAtAll};
 ghost use Rattle.hunt_space.specs.Searched.{IsSpaceSearched};
 ghost use Rattle.hunt_space.specs.Space.{KeepsPaths, KeepsPlaces};
+ghost use Rattle.hunt_space.specs.Standing.{AreStanding, BeginsAfresh, IsStanding};
 
 use crate::clock::TickBound;
 use crate::frontier::Frontier;
 use crate::going::{Going, Tally};
 use crate::path::Path;
+use crate::standing::Stand;
 use crate::text::TextSpan;
 use crate::turning::go;
 use crate::visited::Visited;
-use hunt_schedules::{HuntStop, begin};
+use hunt_schedules::{AnyDevice, HuntStop, Machine, begin};
 use hunt_search::{HuntRun, Onlooker, Report, Target, note};
 
 /// What bounds a search.
@@ -43,16 +47,19 @@ pub struct SpaceReport {
     pub clock: Option<u64>,
 }
 
-// Which ticks may come, and where private rows are taken from.
-#[derive(Clone, Copy, Debug)]
-struct Scope {
+// Which ticks may come, where private rows are taken from, and the machine that has had no event.
+#[derive(Clone, Copy)]
+struct Scope<'a> {
     clock: TickBound,
     text: TextSpan,
+    first: &'a Machine<AnyDevice>,
 }
 
-// How far a search has come.
+// How far a search has come, and the machine on which it goes its paths. A stack has no room for all machines of a search.
 #[derive(Debug, Drop)]
 struct Search {
+    machine: Box<Machine<AnyDevice>>,
+    kept: Stand,
     frontier: Frontier,
     visited: Visited,
     tally: Tally,
@@ -65,7 +72,7 @@ struct Gone {
     count: u32,
 }
 
-// Goes a path on a fresh machine, and adds what it came to.
+// Goes a path, and adds what it came to.
 fn look<O: Onlooker>(
     going: &Going<'_>,
     search: &mut Search,
@@ -73,8 +80,11 @@ fn look<O: Onlooker>(
     onlooker: &mut O,
 ) -> Result<(), HuntStop>
     requires found { AreFound going.now.target.image.now going.now.target.boot.now going.now.target.wanted.now.lines report.old.rows.items }
+    requires first { BeginsAfresh going.now }
+    requires stands { AreStanding going.now.first.now search.old.kept search.old.visited.seen }
     requires there { IsNumbered going.now search.old.frontier.paths.items }
     ensures found { OnOk result (AreFound going.now.target.image.now going.now.target.boot.now going.now.target.wanted.now.lines report.new.rows.items) }
+    ensures stands { OnOk result (AreStanding going.now.first.now search.new.kept search.new.visited.seen) }
     ensures keeps_paths { KeepsPaths search.old.frontier.paths.items search.new.frontier.paths.items }
     ensures keeps_places { KeepsPlaces search.old.visited.places.items search.new.visited.places.items }
     ensures cut { search.new.frontier.cut ≡ false → search.old.frontier.cut ≡ false }
@@ -83,14 +93,11 @@ fn look<O: Onlooker>(
     ensures goes { OnOk result (report.new.rows.items ≡ [] → search.new.frontier.cut ≡ false → HasGone going.now search.old.frontier.paths.items search.new.frontier.paths.items search.old.visited.places.items search.new.visited.places.items) }
 {
     let target = going.target;
-    let mut machine = match begin(target.alloc, target.image, target.boot) {
-        Ok(machine) => machine,
-        Err(fault) => return Err(HuntStop::from(fault)),
-    };
-    machine.rules();
+    going.first.rules();
     let outcome = match go(
         going,
-        &mut machine,
+        &mut search.machine,
+        &mut search.kept,
         &mut search.frontier,
         &mut search.visited,
         &mut search.tally,
@@ -100,7 +107,7 @@ fn look<O: Onlooker>(
     };
     let run = HuntRun {
         seed: u64::from(going.number),
-        machine: &machine,
+        machine: &search.machine,
         outcome,
     };
     match note(&target, &run, report, onlooker) {
@@ -112,17 +119,20 @@ fn look<O: Onlooker>(
 // Goes the paths, those that fork from them too; how many were gone.
 fn go_paths<O: Onlooker>(
     target: &Target<'_>,
-    scope: Scope,
+    scope: &Scope<'_>,
     search: &mut Search,
     report: &mut Report,
     onlooker: &mut O,
 ) -> Result<u32, HuntStop>
-    requires guarded { target.now.wanted.now.demotion ≡ true → 0 < scope.text.high → target.now.boot.now.watchdog ≡ 0 }
+    requires begins { Begins target.now.image.now target.now.boot.now scope.now.first.now }
+    requires fresh { IsReplayOf scope.now.first.now scope.now.first.now }
+    requires stands { AreStanding scope.now.first.now search.old.kept search.old.visited.seen }
+    requires guarded { target.now.wanted.now.demotion ≡ true → 0 < scope.now.text.high → target.now.boot.now.watchdog ≡ 0 }
     requires found { AreFound target.now.image.now target.now.boot.now target.now.wanted.now.lines report.old.rows.items }
     requires root { (root : Path) × (search.old.frontier.paths.items ≡ root ∷ []) × (root.turns.items ≡ []) }
     requires none { search.old.visited.places.items ≡ [] }
     ensures found { OnOk result (AreFound target.now.image.now target.now.boot.now target.now.wanted.now.lines report.new.rows.items) }
-    ensures searched { IfOk result (λ count. report.new.rows.items ≡ [] → search.new.frontier.cut ≡ false → IsSpaceSearched target.now.image.now target.now.boot.now target.now.wanted.now scope.clock search.new.frontier.paths.items search.new.visited.places.items count) }
+    ensures searched { IfOk result (λ count. report.new.rows.items ≡ [] → search.new.frontier.cut ≡ false → IsSpaceSearched target.now.image.now target.now.boot.now target.now.wanted.now scope.now.clock search.new.frontier.paths.items search.new.visited.places.items count) }
 {
     'paths: for number in 0..u32::MAX {
         if search.frontier.hit {
@@ -142,6 +152,7 @@ fn go_paths<O: Onlooker>(
             text: scope.text,
             path: &path,
             number,
+            first: scope.first,
         };
         match look(&going, search, report, onlooker) {
             Ok(()) => {}
@@ -176,8 +187,34 @@ fn told(mut report: Report, search: &Search, count: u32) -> SpaceReport
     }
 }
 
+// A machine that has had no event.
+fn first_machine(target: &Target<'_>) -> Result<Box<Machine<AnyDevice>>, HuntStop>
+    ensures begins { IfOk result (λ machine. Begins target.now.image.now target.now.boot.now machine.value) }
+    ensures fresh { IfOk result (λ machine. IsReplayOf machine.value machine.value) }
+{
+    let machine = match begin(target.alloc, target.image, target.boot) {
+        Ok(machine) => machine,
+        Err(fault) => return Err(HuntStop::from(fault)),
+    };
+    match Box::new(target.alloc, machine) {
+        Ok(machine) => Ok(machine),
+        Err(_) => Err(HuntStop::NoMemory),
+    }
+}
+
+// A machine that stands at the boot.
+fn stand(target: &Target<'_>) -> Result<Stand, HuntStop>
+    ensures { IfOk result (λ stand. (first : State) → Begins target.now.image.now target.now.boot.now first → IsStanding first stand) }
+{
+    match first_machine(target) {
+        Ok(machine) => Ok(Stand::new(target.alloc, machine)),
+        Err(stop) => Err(stop),
+    }
+}
+
 // A search that begins: the boot is the one path.
 fn begun(target: &Target<'_>, states: u32) -> Result<Search, HuntStop>
+    ensures stands { IfOk result (λ search. (first : State) → Begins target.now.image.now target.now.boot.now first → AreStanding first search.kept search.visited.seen) }
     ensures root { IfOk result (λ search. (root : Path) × (search.frontier.paths.items ≡ root ∷ []) × (root.turns.items ≡ [])) }
     ensures none { IfOk result (λ search. search.visited.places.items ≡ []) }
 {
@@ -186,11 +223,25 @@ fn begun(target: &Target<'_>, states: u32) -> Result<Search, HuntStop>
         Ok(frontier) => frontier,
         Err(fault) => return Err(HuntStop::from(fault)),
     };
-    let visited = match Visited::new(target.alloc, states) {
+    let seen = match stand(target) {
+        Ok(seen) => seen,
+        Err(stop) => return Err(stop),
+    };
+    let kept = match stand(target) {
+        Ok(kept) => kept,
+        Err(stop) => return Err(stop),
+    };
+    let machine = match first_machine(target) {
+        Ok(machine) => machine,
+        Err(stop) => return Err(stop),
+    };
+    let visited = match Visited::new(target.alloc, states, seen) {
         Ok(visited) => visited,
         Err(fault) => return Err(HuntStop::from(fault)),
     };
     Ok(Search {
+        machine,
+        kept,
         frontier,
         visited,
         tally: Tally::new(),
@@ -214,11 +265,16 @@ fn search_text<O: Onlooker>(
         Ok(search) => search,
         Err(stop) => return Err(stop),
     };
+    let first = match first_machine(target) {
+        Ok(first) => first,
+        Err(stop) => return Err(stop),
+    };
     let scope = Scope {
         clock: bounds.clock,
         text,
+        first: &first,
     };
-    match go_paths(target, scope, &mut search, report, onlooker) {
+    match go_paths(target, &scope, &mut search, report, onlooker) {
         Ok(count) => Ok(Gone { search, count }),
         Err(stop) => Err(stop),
     }

@@ -3,14 +3,14 @@
 ghost use Rattle.std.specs.Prelude.{◌≡◌, true, false, IfOk, OnOk};
 ghost use Rattle.evm_model.specs.State.{State};
 ghost use Rattle.hunt_space.specs.Going.{ComesOfVisit, IsNumbered, Knows, LeadsTo, BeginsSearch};
-ghost use Rattle.hunt_space.specs.Space.{FitsClock, HasAlikeAt, IsAt, KeepsPlaces};
+ghost use Rattle.hunt_space.specs.Standing.{BeginsAfresh, IsStanding};
+ghost use Rattle.hunt_space.specs.Space.{FitsClock, HasAlikeAt, KeepsPlaces};
 
 use crate::frontier::Frontier;
 use crate::going::{Going, Position};
-use crate::path::Path;
-use crate::replaying::{repeat_steps, repeat_turns};
+use crate::standing::Stand;
 use crate::visited::{StatePlace, Visited};
-use hunt_schedules::{AnyDevice, HuntStop, Machine, begin};
+use hunt_schedules::{AnyDevice, HuntStop, Machine};
 
 /// How many states of one hash are compared.
 const CANDIDATES: u32 = 8;
@@ -26,39 +26,29 @@ pub enum Arrival {
     Cut,
 }
 
-// The machine that some steps of a path lead to.
-fn machine_at(going: &Going<'_>, path: &Path, steps: u32) -> Result<Machine<AnyDevice>, HuntStop>
-    ensures { IfOk result (λ machine. (first : State) → BeginsSearch going.now first → IsAt first path.now.turns.items path.now.cpu steps machine) }
-{
-    let target = going.target;
-    let mut machine = match begin(target.alloc, target.image, target.boot) {
-        Ok(machine) => machine,
-        Err(fault) => return Err(HuntStop::from(fault)),
-    };
-    repeat_turns(&mut machine, path.turns.as_slice());
-    repeat_steps(&mut machine, path.cpu, steps);
-    Ok(machine)
-}
-
 // Whether the state of a place is alike to that of a machine.
 fn covers(
     going: &Going<'_>,
     position: &Position<'_>,
     frontier: &Frontier,
     place: StatePlace,
+    seen: &mut Stand,
 ) -> Result<bool, HuntStop>
+    requires first { BeginsAfresh going.now }
+    requires stands { IsStanding going.now.first.now seen.old }
     requires fits { FitsClock going.now.clock position.now.machine.now }
     requires at { LeadsTo going.now position.now.steps position.now.machine.now }
-    ensures { IfOk result (λ covered. covered ≡ true → (first : State) → BeginsSearch going.now first → HasAlikeAt going.now.clock first frontier.now.paths.items place position.now.machine.now) }
+    ensures stands { IfOk result (λ covered. IsStanding going.now.first.now seen.new) }
+    ensures alike { IfOk result (λ covered. covered ≡ true → (first : State) → BeginsSearch going.now first → HasAlikeAt going.now.clock first frontier.now.paths.items place position.now.machine.now) }
 {
     let Some(path) = frontier.paths.get(place.path as usize) else {
         return Ok(false);
     };
-    let seen = match machine_at(going, path, place.steps) {
-        Ok(seen) => seen,
+    match seen.take_to(going.first, path.turns.as_slice(), path.cpu, place.steps) {
+        Ok(()) => {}
         Err(stop) => return Err(stop),
-    };
-    Ok(going.clock.compare(&seen, position.machine))
+    }
+    Ok(going.clock.compare(&seen.machine, position.machine))
 }
 
 // Whether a state that was visited is alike to that of a machine: one of its hash.
@@ -67,11 +57,15 @@ fn is_covered(
     position: &Position<'_>,
     hash: u64,
     frontier: &Frontier,
-    visited: &Visited,
+    visited: &mut Visited,
 ) -> Result<bool, HuntStop>
+    requires first { BeginsAfresh going.now }
+    requires stands { IsStanding going.now.first.now visited.old.seen }
     requires fits { FitsClock going.now.clock position.now.machine.now }
     requires at { LeadsTo going.now position.now.steps position.now.machine.now }
-    ensures { IfOk result (λ covered. covered ≡ true → Knows going.now frontier.now.paths.items visited.now.places.items position.now.machine.now) }
+    ensures same { visited.new.places.items ≡ visited.old.places.items }
+    ensures stands { IfOk result (λ covered. IsStanding going.now.first.now visited.new.seen) }
+    ensures known { IfOk result (λ covered. covered ≡ true → Knows going.now frontier.now.paths.items visited.old.places.items position.now.machine.now) }
 {
     let mut from = 0;
     'candidates: for _ in 0..CANDIDATES {
@@ -81,7 +75,7 @@ fn is_covered(
         let Some(place) = visited.found(hash, turn) else {
             return Ok(false);
         };
-        match covers(going, position, frontier, place) {
+        match covers(going, position, frontier, place, &mut visited.seen) {
             Ok(true) => return Ok(true),
             Ok(false) => {}
             Err(stop) => return Err(stop),
@@ -98,10 +92,13 @@ fn enter(
     frontier: &Frontier,
     visited: &mut Visited,
 ) -> Result<Arrival, HuntStop>
+    requires first { BeginsAfresh going.now }
+    requires stands { IsStanding going.now.first.now visited.old.seen }
     requires there { IsNumbered going.now frontier.now.paths.items }
     requires fits { FitsClock going.now.clock position.now.machine.now }
     requires at { LeadsTo going.now position.now.steps position.now.machine.now }
     ensures keeps { KeepsPlaces visited.old.places.items visited.new.places.items }
+    ensures stands { IfOk result (λ arrival. IsStanding going.now.first.now visited.new.seen) }
     ensures comes { IfOk result (λ arrival. ComesOfVisit going.now frontier.now.cut frontier.now.paths.items visited.old.places.items visited.new.places.items position.now.steps position.now.machine.now arrival) }
 {
     let hash = going.clock.hash(position.machine, &position.trail);
@@ -142,11 +139,14 @@ pub(crate) fn visit(
     frontier: &mut Frontier,
     visited: &mut Visited,
 ) -> Result<Arrival, HuntStop>
+    requires first { BeginsAfresh going.now }
+    requires stands { IsStanding going.now.first.now visited.old.seen }
     requires there { IsNumbered going.now frontier.old.paths.items }
     requires at { LeadsTo going.now position.now.steps position.now.machine.now }
     ensures paths { frontier.new.paths.items ≡ frontier.old.paths.items }
     ensures cut { frontier.new.cut ≡ false → frontier.old.cut ≡ false }
     ensures keeps { KeepsPlaces visited.old.places.items visited.new.places.items }
+    ensures stands { IfOk result (λ arrival. IsStanding going.now.first.now visited.new.seen) }
     ensures comes { IfOk result (λ arrival. ComesOfVisit going.now frontier.new.cut frontier.old.paths.items visited.old.places.items visited.new.places.items position.now.steps position.now.machine.now arrival) }
 {
     if !may_visit(going, position.machine, visited) {
@@ -161,7 +161,8 @@ pub(crate) fn visit(
 
 /// Puts the last state that was visited into the table, if private rows have led to it.
 pub(crate) fn mark(going: &Going<'_>, position: &Position<'_>, from: u32, visited: &mut Visited)
-    ensures { visited.new.places.items ≡ visited.old.places.items }
+    ensures places { visited.new.places.items ≡ visited.old.places.items }
+    ensures seen { visited.new.seen ≡ visited.old.seen }
 {
     if position.steps == from {
         return;

@@ -3,6 +3,7 @@
 
 ghost use Rattle.std.specs.Prelude.{◌≡◌, ◌++◌, ◌∷◌, [], OnOk, OnErr, IfOk, IfSome, Option, slice_get, ℕ};
 
+use crate::standing::Stand;
 use evm_room::NoMemory;
 use std::alloc::Global;
 
@@ -30,6 +31,8 @@ pub struct Visited {
     /// How many there may be.
     pub most: u32,
     slots: Vec<Slot>,
+    /// A machine that is taken to one of the states, to compare it.
+    pub(crate) seen: Stand,
 }
 
 impl Visited {
@@ -38,8 +41,9 @@ impl Visited {
     /// # Errors
     ///
     /// Memory was refused.
-    pub(crate) fn new(alloc: Global, most: u32) -> Result<Visited, NoMemory>
-        ensures { IfOk result (λ visited. visited.places.items ≡ []) }
+    pub(crate) fn new(alloc: Global, most: u32, seen: Stand) -> Result<Visited, NoMemory>
+        ensures places { IfOk result (λ visited. visited.places.items ≡ []) }
+        ensures seen { IfOk result (λ visited. visited.seen ≡ seen) }
     {
         let none = Slot { hash: 0, number: 0 };
         let mut slots = Vec::new(alloc);
@@ -48,6 +52,7 @@ impl Visited {
                 places: Vec::new(alloc),
                 most,
                 slots,
+                seen,
             }),
             Err(_) => Err(NoMemory),
         }
@@ -99,7 +104,8 @@ impl Visited {
 
     // Puts the number of a place into the table.
     fn note(&mut self, hash: u64, number: u32)
-        ensures { self.new.places ≡ self.old.places }
+        ensures places { self.new.places ≡ self.old.places }
+        ensures seen { self.new.seen ≡ self.old.seen }
     {
         for turn in 0..self.slots.len() as u64 {
             let at = self.slot_of(hash, turn);
@@ -117,7 +123,8 @@ impl Visited {
 
     /// Puts the last state into the table.
     pub(crate) fn mark(&mut self, hash: u64)
-        ensures { self.new.places.items ≡ self.old.places.items }
+        ensures places { self.new.places.items ≡ self.old.places.items }
+        ensures seen { self.new.seen ≡ self.old.seen }
     {
         let number = self.places.len() as u64;
         if number <= u64::from(u32::MAX) {
@@ -138,6 +145,7 @@ impl Visited {
     pub(crate) fn pass(&mut self, place: StatePlace) -> Result<(), NoMemory>
         ensures added { OnOk result (self.new.places.items ≡ self.old.places.items ++ place ∷ []) }
         ensures same { OnErr result (self.new.places.items ≡ self.old.places.items) }
+        ensures seen { self.new.seen ≡ self.old.seen }
     {
         match self.places.push(place) {
             Ok(()) => Ok(()),
@@ -153,6 +161,7 @@ impl Visited {
     pub(crate) fn add(&mut self, hash: u64, place: StatePlace) -> Result<(), NoMemory>
         ensures added { OnOk result (self.new.places.items ≡ self.old.places.items ++ place ∷ []) }
         ensures same { OnErr result (self.new.places.items ≡ self.old.places.items) }
+        ensures seen { self.new.seen ≡ self.old.seen }
     {
         let number = self.places.len() as u64 + 1;
         match self.places.push(place) {

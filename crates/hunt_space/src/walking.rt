@@ -7,6 +7,7 @@ ghost use Rattle.hunt_schedules.specs.Runs.{Ends};
 ghost use Rattle.hunt_search.specs.Searches.{is_failed};
 ghost use Rattle.hunt_space.specs.Going.{HasGoneOn, IsNumbered, LeadsTo};
 ghost use Rattle.hunt_space.specs.Space.{KeepsPaths, KeepsPlaces};
+ghost use Rattle.hunt_space.specs.Standing.{BeginsAfresh, IsStanding};
 
 use crate::exploring::explore;
 use crate::frontier::Frontier;
@@ -30,10 +31,13 @@ pub(crate) fn go_on(
     visited: &mut Visited,
     tally: &mut Tally,
 ) -> Result<RunOutcome, HuntStop>
+    requires first { BeginsAfresh going.now }
+    requires stands { IsStanding going.now.first.now visited.old.seen }
     requires there { IsNumbered going.now frontier.old.paths.items }
     requires at { LeadsTo going.now 0 machine.old }
     ensures keeps_paths { KeepsPaths frontier.old.paths.items frontier.new.paths.items }
     ensures keeps_places { KeepsPlaces visited.old.places.items visited.new.places.items }
+    ensures stands { IfOk result (λ outcome. IsStanding going.now.first.now visited.new.seen) }
     ensures cut { frontier.new.cut ≡ false → frontier.old.cut ≡ false }
     ensures ends { IfOk result (λ outcome. Ends going.now.target.wanted.now.lines outcome machine.new) }
     ensures goes { IfOk result (λ outcome. is_failed outcome ≡ false → frontier.new.cut ≡ false → HasGoneOn going.now frontier.old.paths.items frontier.new.paths.items visited.old.places.items visited.new.places.items machine.old) }
