@@ -1,5 +1,7 @@
 //! Commands that look at the machine and leave it as it is.
 
+ghost use Rattle.std.specs.Prelude.{◌≡◌};
+
 use crate::answer::LineAnswer;
 use crate::shell::{Outcome, Shell, Watch};
 use evm_room::NoMemory;
@@ -74,7 +76,9 @@ fn put_watch(
 
 impl<M: Meter + Drop> Shell<'_, M> {
     /// Says which watched words have changed.
-    pub(crate) fn tell_watches(&mut self, page: &mut Page) -> Result<(), NoMemory> {
+    pub(crate) fn tell_watches(&mut self, page: &mut Page) -> Result<(), NoMemory>
+        ensures { self.new.scripted.image ≡ self.old.scripted.image }
+    {
         let Some(machine) = self.scripted.machine() else {
             return Ok(());
         };
@@ -89,7 +93,9 @@ impl<M: Meter + Drop> Shell<'_, M> {
     }
 
     /// `watch ADDRESS`: from now on each change of a word of 8 bytes is said.
-    pub(crate) fn watch(&mut self, rest: &str, page: &mut Page) -> Result<Outcome, NoMemory> {
+    pub(crate) fn watch(&mut self, rest: &str, page: &mut Page) -> Result<Outcome, NoMemory>
+        ensures { self.new.scripted.image ≡ self.old.scripted.image }
+    {
         let Some(address) = address_of(&self.names.symbols, rest) else {
             return Ok(Outcome::Wanted(WATCH_FORM));
         };
@@ -114,7 +120,9 @@ impl<M: Meter + Drop> Shell<'_, M> {
         &mut self,
         rest: &str,
         answer: &mut LineAnswer,
-    ) -> Result<Outcome, NoMemory> {
+    ) -> Result<Outcome, NoMemory>
+        ensures { self.new.scripted.image ≡ self.old.scripted.image }
+    {
         let Some((view, whole, wanted)) = expected(rest) else {
             return Ok(Outcome::Wanted(EXPECT_FORM));
         };
@@ -136,7 +144,9 @@ impl<M: Meter + Drop> Shell<'_, M> {
     }
 
     // Adds a case to the test suite, if one is written.
-    fn add_case(&mut self, words: &str, met: bool, seen: &LineAnswer) -> Result<(), NoMemory> {
+    fn add_case(&mut self, words: &str, met: bool, seen: &LineAnswer) -> Result<(), NoMemory>
+        ensures { self.new.scripted.image ≡ self.old.scripted.image }
+    {
         let Some(cases) = &mut self.cases else {
             return Ok(());
         };
@@ -149,7 +159,9 @@ impl<M: Meter + Drop> Shell<'_, M> {
     }
 
     // Says whether an expectation is met, and what was seen if not.
-    fn tell_met(&mut self, seen: &[u8], met: bool, page: &mut Page) -> Result<(), NoMemory> {
+    fn tell_met(&mut self, seen: &[u8], met: bool, page: &mut Page) -> Result<(), NoMemory>
+        ensures { self.new.scripted.image ≡ self.old.scripted.image }
+    {
         if met {
             return page.put("  as expected\n");
         }
@@ -159,7 +171,9 @@ impl<M: Meter + Drop> Shell<'_, M> {
     }
 
     /// `show ADDRESS as TYPE[N]`: what RAM holds, as numbers.
-    pub(crate) fn show(&mut self, rest: &str, page: &mut Page) -> Result<Outcome, NoMemory> {
+    pub(crate) fn show(&mut self, rest: &str, page: &mut Page) -> Result<Outcome, NoMemory>
+        ensures { self.new.scripted.image ≡ self.old.scripted.image }
+    {
         let Some(numbers) = numbers_of(&self.names, rest) else {
             return Ok(Outcome::Wanted(SHOW_FORM));
         };
@@ -176,7 +190,9 @@ impl<M: Meter + Drop> Shell<'_, M> {
     }
 
     /// `mark`: what `diff` compares with.
-    pub(crate) fn set_mark(&mut self, alloc: Global, rest: &str) -> Result<Outcome, NoMemory> {
+    pub(crate) fn set_mark(&mut self, alloc: Global, rest: &str) -> Result<Outcome, NoMemory>
+        ensures { self.new.scripted.image ≡ self.old.scripted.image }
+    {
         if !rest.is_empty() {
             return Ok(Outcome::Wanted(MARK_FORM));
         }
@@ -188,7 +204,9 @@ impl<M: Meter + Drop> Shell<'_, M> {
     }
 
     /// `diff`: what has changed since the last `mark`.
-    pub(crate) fn diff(&mut self, rest: &str, page: &mut Page) -> Result<Outcome, NoMemory> {
+    pub(crate) fn diff(&mut self, rest: &str, page: &mut Page) -> Result<Outcome, NoMemory>
+        ensures { self.new.scripted.image ≡ self.old.scripted.image }
+    {
         let Some(machine) = self.scripted.machine() else {
             return Ok(Outcome::NotBooted);
         };
@@ -215,7 +233,9 @@ impl<M: Meter + Drop> Shell<'_, M> {
     }
 
     /// `where ADDRESS`: an address by number and by name, and the line of the source that its code comes from.
-    pub(crate) fn place(&mut self, rest: &str, page: &mut Page) -> Result<Outcome, NoMemory> {
+    pub(crate) fn place(&mut self, rest: &str, page: &mut Page) -> Result<Outcome, NoMemory>
+        ensures { self.new.scripted.image ≡ self.old.scripted.image }
+    {
         let Some(address) = address_of(&self.names.symbols, rest) else {
             return Ok(Outcome::Wanted(WHERE_FORM));
         };
@@ -232,7 +252,9 @@ impl<M: Meter + Drop> Shell<'_, M> {
     }
 
     /// `symbols`: the names that the image has.
-    pub(crate) fn list(&mut self, rest: &str, page: &mut Page) -> Result<Outcome, NoMemory> {
+    pub(crate) fn list(&mut self, rest: &str, page: &mut Page) -> Result<Outcome, NoMemory>
+        ensures { self.new.scripted.image ≡ self.old.scripted.image }
+    {
         if !rest.is_empty() {
             return Ok(Outcome::Wanted(SYMBOLS_FORM));
         }

@@ -1,5 +1,7 @@
 //! Lines as they come: each is answered before the next is read.
 
+ghost use Rattle.std.specs.Prelude.{◌≡◌};
+
 use crate::answer::LineAnswer;
 use crate::shell::Shell;
 use crate::typing::History;
@@ -40,7 +42,9 @@ fn answer<W: Sink, M: Meter + Drop>(
     number: u64,
     line: &[u8],
     output: &mut W,
-) -> Result<(), Finish> {
+) -> Result<(), Finish>
+    ensures { shell.new.scripted.image ≡ shell.old.scripted.image }
+{
     let mut answer = LineAnswer::new(alloc, number);
     let told = shell.line(line, &mut answer);
     if let Err(fault) = write_all(output, answer.bytes()) {
@@ -60,7 +64,9 @@ fn answer_typed<W: Sink, M: Meter + Drop>(
     number: u64,
     keys: &[u8],
     output: &mut W,
-) -> Result<(), Finish> {
+) -> Result<(), Finish>
+    ensures { shell.new.scripted.image ≡ shell.old.scripted.image }
+{
     let line = history.typed(alloc, keys)?;
     history.keep(alloc, line.as_slice())?;
     shell.echo(line.as_slice() != keys);
@@ -75,7 +81,9 @@ fn answer_next<W: Sink, M: Meter + Drop>(
     number: u64,
     line: &[u8],
     output: &mut W,
-) -> Result<(), Finish> {
+) -> Result<(), Finish>
+    ensures { shell.new.scripted.image ≡ shell.old.scripted.image }
+{
     match history {
         None => answer(alloc, shell, number, line, output),
         Some(history) => answer_typed(alloc, shell, history, number, line, output),
@@ -89,7 +97,9 @@ fn answer_whole<W: Sink, M: Meter + Drop>(
     mut history: Option<&mut History>,
     pending: Pending,
     output: &mut W,
-) -> Result<Pending, Finish> {
+) -> Result<Pending, Finish>
+    ensures { shell.new.scripted.image ≡ shell.old.scripted.image }
+{
     let mut number = pending.number;
     let mut rest = pending.bytes.as_slice();
     while let Some((line, after)) = cut_ended(rest) {
@@ -130,7 +140,9 @@ pub fn serve_lines<R: Source, W: Sink, E: Sink, M: Meter + Drop>(
     source: &mut R,
     output: &mut W,
     errors: &mut E,
-) -> Result<(), Finish> {
+) -> Result<(), Finish>
+    ensures { shell.new.scripted.image ≡ shell.old.scripted.image }
+{
     let mut pending = Pending {
         bytes: Vec::new(alloc),
         number: 1,

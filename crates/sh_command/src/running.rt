@@ -1,6 +1,7 @@
 //! Commands that drive the machine, each by plain lines.
 
-ghost use Rattle.std.specs.Prelude.{◌<◌, ◌≤◌, IfSome};
+ghost use Rattle.std.specs.Prelude.{◌≡◌, ◌<◌, ◌≤◌, IfOk, IfSome, true};
+ghost use Rattle.sh_command.specs.Saved.{ShowsLine};
 
 use crate::answer::LineAnswer;
 use crate::shell::{Outcome, Shell};
@@ -59,7 +60,10 @@ impl<M: Meter + Drop> Shell<'_, M> {
         &mut self,
         line: &[u8],
         answer: &mut LineAnswer,
-    ) -> Result<bool, NoMemory> {
+    ) -> Result<bool, NoMemory>
+        ensures image { self.new.scripted.image ≡ self.old.scripted.image }
+        ensures done { IfOk result (λ done. done ≡ true → ShowsLine line.now self.old.scripted self.new.scripted answer.old.page answer.new.page) }
+    {
         let alloc = answer.alloc;
         let mut text = String::new(alloc);
         match self.scripted.run(alloc, line, &mut text, &mut self.notes) {
@@ -103,7 +107,9 @@ impl<M: Meter + Drop> Shell<'_, M> {
         before: Option<&Snapshot>,
         swallowed: Option<Swallowed>,
         page: &mut Page,
-    ) -> Result<(), NoMemory> {
+    ) -> Result<(), NoMemory>
+        ensures { self.new.scripted.image ≡ self.old.scripted.image }
+    {
         if let Some(machine) = self.scripted.machine()
             && let Some(before) = before
         {
@@ -118,11 +124,9 @@ impl<M: Meter + Drop> Shell<'_, M> {
     }
 
     /// A line of a script, with names.
-    pub(crate) fn plain(
-        &mut self,
-        text: &str,
-        answer: &mut LineAnswer,
-    ) -> Result<Outcome, NoMemory> {
+    pub(crate) fn plain(&mut self, text: &str, answer: &mut LineAnswer) -> Result<Outcome, NoMemory>
+        ensures { self.new.scripted.image ≡ self.old.scripted.image }
+    {
         let mut line = Page::new(answer.alloc);
         put_plain(&mut line, &self.names, text)?;
         let before = self.shot(answer.alloc)?;
@@ -156,14 +160,18 @@ impl<M: Meter + Drop> Shell<'_, M> {
     }
 
     // Steps of a processor, as a plain line.
-    fn steps(&mut self, c: u8, count: u64, answer: &mut LineAnswer) -> Result<bool, NoMemory> {
+    fn steps(&mut self, c: u8, count: u64, answer: &mut LineAnswer) -> Result<bool, NoMemory>
+        ensures { self.new.scripted.image ≡ self.old.scripted.image }
+    {
         let mut line = Page::new(answer.alloc);
         put_steps(&mut line, c, count)?;
         self.run_plain(line.bytes(), answer)
     }
 
     // A step of each processor.
-    fn round(&mut self, cpus: u8, answer: &mut LineAnswer) -> Result<bool, NoMemory> {
+    fn round(&mut self, cpus: u8, answer: &mut LineAnswer) -> Result<bool, NoMemory>
+        ensures { self.new.scripted.image ≡ self.old.scripted.image }
+    {
         for c in 0..cpus {
             if !self.steps(c, 1, answer)? {
                 return Ok(false);
@@ -172,7 +180,9 @@ impl<M: Meter + Drop> Shell<'_, M> {
         Ok(true)
     }
 
-    fn rounds(&mut self, cpus: u8, count: u64, answer: &mut LineAnswer) -> Result<(), NoMemory> {
+    fn rounds(&mut self, cpus: u8, count: u64, answer: &mut LineAnswer) -> Result<(), NoMemory>
+        ensures { self.new.scripted.image ≡ self.old.scripted.image }
+    {
         if cpus == 1 {
             let _done = self.steps(0, count, answer)?;
             return Ok(());
@@ -187,11 +197,9 @@ impl<M: Meter + Drop> Shell<'_, M> {
     }
 
     /// `each N`: N rounds over all processors.
-    pub(crate) fn each(
-        &mut self,
-        rest: &str,
-        answer: &mut LineAnswer,
-    ) -> Result<Outcome, NoMemory> {
+    pub(crate) fn each(&mut self, rest: &str, answer: &mut LineAnswer) -> Result<Outcome, NoMemory>
+        ensures { self.new.scripted.image ≡ self.old.scripted.image }
+    {
         let Some(count) = rounds_of(rest) else {
             return Ok(Outcome::Wanted(EACH_FORM));
         };
@@ -214,7 +222,9 @@ impl<M: Meter + Drop> Shell<'_, M> {
         condition: Condition,
         bound: u64,
         answer: &mut LineAnswer,
-    ) -> Result<Option<u64>, NoMemory> {
+    ) -> Result<Option<u64>, NoMemory>
+        ensures { self.new.scripted.image ≡ self.old.scripted.image }
+    {
         for done in 0..bound {
             let Some(machine) = self.scripted.machine() else {
                 return Ok(None);
@@ -234,7 +244,9 @@ impl<M: Meter + Drop> Shell<'_, M> {
         }
     }
 
-    fn say_rounds(&mut self, reached: Option<u64>, page: &mut Page) -> Result<(), NoMemory> {
+    fn say_rounds(&mut self, reached: Option<u64>, page: &mut Page) -> Result<(), NoMemory>
+        ensures { self.new.scripted.image ≡ self.old.scripted.image }
+    {
         match reached {
             Some(rounds) => {
                 page.put("  reached after ")?;
@@ -249,11 +261,9 @@ impl<M: Meter + Drop> Shell<'_, M> {
     }
 
     /// `until CONDITION [within N]`: rounds over all processors until a condition holds, or N of them.
-    pub(crate) fn until(
-        &mut self,
-        rest: &str,
-        answer: &mut LineAnswer,
-    ) -> Result<Outcome, NoMemory> {
+    pub(crate) fn until(&mut self, rest: &str, answer: &mut LineAnswer) -> Result<Outcome, NoMemory>
+        ensures { self.new.scripted.image ≡ self.old.scripted.image }
+    {
         let (words, bound) = match rest.split_once(" within ") {
             None => (rest, Some(ROUNDS)),
             Some((words, bound)) => (words, rounds_of(bound)),

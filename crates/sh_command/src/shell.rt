@@ -1,5 +1,7 @@
 //! The shell: a line, and what it answers.
 
+ghost use Rattle.std.specs.Prelude.{◌≡◌, IfOk};
+
 use crate::answer::LineAnswer;
 use crate::cases::Cases;
 use crate::commands::{Suggestion, UNKNOWN, missing_in, suggest};
@@ -51,7 +53,9 @@ impl<'a, M: Meter + Drop> Shell<'a, M> {
     /// # Errors
     ///
     /// Memory was refused.
-    pub fn new(alloc: Global, image: &'a Image, names: Names, meter: M) -> Result<Self, NoMemory> {
+    pub fn new(alloc: Global, image: &'a Image, names: Names, meter: M) -> Result<Self, NoMemory>
+        ensures { IfOk result (λ shell. shell.scripted.image ≡ image.now) }
+    {
         let notes = Notes::new(alloc)?;
         Ok(Shell {
             scripted: ScriptedMachine::new(image),
@@ -68,7 +72,9 @@ impl<'a, M: Meter + Drop> Shell<'a, M> {
     }
 
     /// From now on a line is shown before its answer, or not.
-    pub(crate) fn echo(&mut self, is_echoing: bool) {
+    pub(crate) fn echo(&mut self, is_echoing: bool)
+        ensures { self.new.scripted.image ≡ self.old.scripted.image }
+    {
         self.is_echoing = is_echoing;
     }
 
@@ -78,12 +84,16 @@ impl<'a, M: Meter + Drop> Shell<'a, M> {
     }
 
     /// The scripted machine, with the machine and the lines of a script that made it.
-    pub fn scripted(&self) -> &ScriptedMachine<'a> {
+    pub fn scripted(&self) -> &ScriptedMachine<'a>
+        ensures { result.now ≡ self.now.scripted }
+    {
         &self.scripted
     }
 
     // A command, from its keyword and the words behind it.
-    fn command(&mut self, text: &str, answer: &mut LineAnswer) -> Result<Outcome, NoMemory> {
+    fn command(&mut self, text: &str, answer: &mut LineAnswer) -> Result<Outcome, NoMemory>
+        ensures { self.new.scripted.image ≡ self.old.scripted.image }
+    {
         let (keyword, rest) = split_word(text);
         match keyword {
             "each" => self.each(rest, answer),
@@ -110,7 +120,9 @@ impl<'a, M: Meter + Drop> Shell<'a, M> {
         word: &str,
         behind: &str,
         answer: &mut LineAnswer,
-    ) -> Result<(), NoMemory> {
+    ) -> Result<(), NoMemory>
+        ensures { self.new.scripted.image ≡ self.old.scripted.image }
+    {
         self.failed = true;
         let page = &mut answer.page;
         page.put("! line:")?;
@@ -122,12 +134,16 @@ impl<'a, M: Meter + Drop> Shell<'a, M> {
         page.put("\n")
     }
 
-    fn blame(&mut self, words: &str, answer: &mut LineAnswer) -> Result<(), NoMemory> {
+    fn blame(&mut self, words: &str, answer: &mut LineAnswer) -> Result<(), NoMemory>
+        ensures { self.new.scripted.image ≡ self.old.scripted.image }
+    {
         self.blame_word(words, "", "", answer)
     }
 
     // Whether a line is not done since it has no such command or no such symbol, which the page says then.
-    fn is_unknown(&mut self, text: &str, answer: &mut LineAnswer) -> Result<bool, NoMemory> {
+    fn is_unknown(&mut self, text: &str, answer: &mut LineAnswer) -> Result<bool, NoMemory>
+        ensures { self.new.scripted.image ≡ self.old.scripted.image }
+    {
         let (keyword, rest) = split_word(text);
         match suggest(keyword) {
             Suggestion::Known => {}
@@ -157,7 +173,9 @@ impl<'a, M: Meter + Drop> Shell<'a, M> {
     /// # Errors
     ///
     /// Memory was refused. The machine is as the lines say that were done.
-    pub fn line(&mut self, line: &[u8], answer: &mut LineAnswer) -> Result<(), NoMemory> {
+    pub fn line(&mut self, line: &[u8], answer: &mut LineAnswer) -> Result<(), NoMemory>
+        ensures { self.new.scripted.image ≡ self.old.scripted.image }
+    {
         let Ok(text) = std::str::from_utf8(line) else {
             return self.blame("bad line: no UTF-8", answer);
         };

@@ -1,5 +1,9 @@
 //! What stands behind the word `sh`.
 
+ghost use Rattle.std.specs.Prelude.{◌≡◌, IfSome, option_copied};
+ghost use Rattle.clap.specs.Words.{first_of, found_of, rows_of};
+ghost use Rattle.sh_command.specs.Saved.{AreNamed};
+
 use clap::ArgMatches;
 
 /// The files that the words name.
@@ -19,15 +23,24 @@ pub(crate) struct Job<'a> {
     pub(crate) map: Option<&'a str>,
 }
 
+// The value of an argument.
+fn value<'a>(words: &ArgMatches<'a>, id: &str) -> Option<&'a str>
+    ensures { option_copied result ≡ first_of id.now (rows_of (found_of words.now)) }
+{
+    words.get_str(id)
+}
+
 /// What the words behind `sh` ask for.
-pub(crate) fn job_of<'a>(words: &ArgMatches<'a>) -> Option<Job<'a>> {
-    let image = words.get_str("IMAGE")?;
+pub(crate) fn job_of<'a>(words: &ArgMatches<'a>) -> Option<Job<'a>>
+    ensures { IfSome result (λ job. AreNamed (rows_of (found_of words.now)) job.image.now (option_copied job.script) (option_copied job.journal) (option_copied job.junit)) }
+{
+    let image = value(words, "IMAGE")?;
     Some(Job {
         image,
-        file: words.get_str("FILE"),
-        script: words.get_str("script"),
-        journal: words.get_str("journal"),
-        junit: words.get_str("junit"),
-        map: words.get_str("map"),
+        file: value(words, "FILE"),
+        script: value(words, "script"),
+        journal: value(words, "journal"),
+        junit: value(words, "junit"),
+        map: value(words, "map"),
     })
 }
