@@ -2,7 +2,7 @@
 PROGRAMS := evltool vardozek
 PREFIX ?= /usr/local
 VERSION := $(shell sed -n 's/.*const VERSION: &str = "\([^"]*\)".*/\1/p' crates/evm_host/src/answering.rt)
-SOURCES := crates.txt $(shell find crates -name out -prune -o -type f -not -path '*/wrong-bodies/*' -not -path '*/data/*' -print)
+SOURCES := crates.txt $(shell find crates -name out -prune -o -type f -not -path '*/must-fail/*' -not -path '*/wrong-bodies/*' -not -path '*/data/*' -print)
 SHARE := $(DESTDIR)$(PREFIX)/share
 
 .PHONY: all quick test install dist clean
