@@ -3,15 +3,16 @@
 use crate::PROGRAM;
 use crate::job::HuntJob;
 use crate::progress::{HuntClock, HuntProgress};
-use crate::results::tell;
+use crate::results::{Hunted, tell};
 use crate::telling::Telling;
 use crate::words::{Options, Search, WordFault, options_of};
 use clap::ArgMatches;
 use evm_host::{FAILED, Message, System, USAGE, World, image_at, memory_refused, names_at, report};
 use hunt_search::{
-    BeginFault, Boot, HuntStop, Plan, Report, SearchSpan, SpaceCounts, Switching, Target, Way,
-    first_choices, first_length, hunt, hunt_all,
+    BeginFault, Boot, HuntStop, Plan, SearchSpan, SpaceCounts, Switching, Target, Way, first_choices,
+    first_length, hunt, hunt_all,
 };
+use evm_streams::Numeral;
 use hunt_space::{SpaceBounds, TickBound, hunt_space};
 use std::alloc::Global;
 use text_symbols::{Names, Symbols};
@@ -24,6 +25,9 @@ const RAM_END: &str = "ram_end";
 
 /// Where RAM begins, and how many bytes of it there are where the image says nothing.
 const RAM: (u64, u64) = (0x8000_0000, 65_536);
+
+/// How many bytes a state that is visited takes, about.
+const STATE_BYTES: u64 = 360;
 
 // Says why there is nothing to be hunted.
 fn blame<S: System>(fault: WordFault, world: &mut World<S>) -> u8 {
@@ -95,11 +99,24 @@ fn way_of(job: &HuntJob<'_>) -> Result<Way, HuntStop> {
     }
 }
 
+// Says how much memory the states may take.
+fn tell_memory<S: System>(states: u32, world: &mut World<S>) {
+    let megabytes = (u64::from(states) * STATE_BYTES).div_ceil(1_000_000);
+    let message = Message::WithTwo(
+        "at most ",
+        Numeral::Decimal(u64::from(states)),
+        " states, some ",
+        Numeral::Decimal(megabytes),
+        " MB",
+    );
+    report(PROGRAM, message, &mut world.errors);
+}
+
 // Looks at every schedule.
 fn hunt_everything<S: System>(
     job: &HuntJob<'_>,
     telling: &mut Telling<'_, S>,
-) -> Result<(Report, SearchSpan), HuntStop> {
+) -> Result<Hunted, HuntStop> {
     let options = job.options;
     let clock = match options.ticks {
         Some(most) => TickBound::AtMost(most),
@@ -109,6 +126,7 @@ fn hunt_everything<S: System>(
         clock,
         states: options.states,
     };
+    tell_memory(options.states, telling.world);
     let found = hunt_space(&job.target, &bounds, telling)?;
     let counts = SpaceCounts {
         ticks: options.ticks,
@@ -117,7 +135,11 @@ fn hunt_everything<S: System>(
         ends: found.ends,
         clock: found.clock,
     };
-    Ok((found.report, SearchSpan::All(counts)))
+    Ok(Hunted {
+        report: found.report,
+        span: SearchSpan::All(counts),
+        text: Some(found.text),
+    })
 }
 
 // Looks at every schedule with at most a number of switches.
@@ -125,7 +147,7 @@ fn hunt_switches<S: System>(
     job: &HuntJob<'_>,
     switches: u8,
     telling: &mut Telling<'_, S>,
-) -> Result<(Report, SearchSpan), HuntStop> {
+) -> Result<Hunted, HuntStop> {
     let options = job.options;
     let bounds = Switching {
         switches,
@@ -133,14 +155,18 @@ fn hunt_switches<S: System>(
         orders: options.orders,
     };
     let report = hunt_all(&job.target, &bounds, telling)?;
-    Ok((report, SearchSpan::Switches(switches)))
+    Ok(Hunted {
+        report,
+        span: SearchSpan::Switches(switches),
+        text: None,
+    })
 }
 
 // Looks at the schedules of seeds.
 fn hunt_seeds<S: System>(
     job: &HuntJob<'_>,
     telling: &mut Telling<'_, S>,
-) -> Result<(Report, SearchSpan), HuntStop> {
+) -> Result<Hunted, HuntStop> {
     let options = job.options;
     let plan = Plan {
         way: way_of(job)?,
@@ -149,14 +175,18 @@ fn hunt_seeds<S: System>(
         orders: options.orders,
     };
     let report = hunt(&job.target, &plan, telling)?;
-    Ok((report, SearchSpan::Seeds(options.first)))
+    Ok(Hunted {
+        report,
+        span: SearchSpan::Seeds(options.first),
+        text: None,
+    })
 }
 
 // Looks at the schedules of the options.
 fn hunt_by<S: System>(
     job: &HuntJob<'_>,
     telling: &mut Telling<'_, S>,
-) -> Result<(Report, SearchSpan), HuntStop> {
+) -> Result<Hunted, HuntStop> {
     match job.options.search {
         Search::All => hunt_everything(job, telling),
         Search::Switches(switches) => hunt_switches(job, switches, telling),
@@ -171,7 +201,7 @@ fn hunt_in<'a, S: System>(
     rt: &'a HostRuntime,
     clock: HuntClock,
     world: &'a mut World<S>,
-) -> Result<(Report, SearchSpan, u8), HuntStop> {
+) -> Result<(Hunted, u8), HuntStop> {
     let mut telling = Telling {
         alloc: job.target.alloc,
         names,
@@ -183,9 +213,9 @@ fn hunt_in<'a, S: System>(
     };
     let hunted = hunt_by(job, &mut telling);
     telling.clock.clear(telling.rt);
-    let (report, span) = hunted?;
+    let hunted = hunted?;
     let status = telling.told?;
-    Ok((report, span, status))
+    Ok((hunted, status))
 }
 
 // Hunts in an image, and shows what it comes to.
@@ -196,11 +226,11 @@ fn hunt_and_tell<S: System>(
     clock: HuntClock,
     world: &mut World<S>,
 ) -> Result<u8, HuntStop> {
-    let (report, span, status) = hunt_in(job, names, rt, clock, world)?;
+    let (hunted, status) = hunt_in(job, names, rt, clock, world)?;
     if status != 0 {
         return Ok(status);
     }
-    tell(job, &report, span, world)
+    tell(job, &hunted, world)
 }
 
 // Hunts by the options.

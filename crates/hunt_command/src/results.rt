@@ -10,11 +10,21 @@ use evm_room::NoMemory;
 use evm_streams::Numeral;
 use hunt_search::{
     Found, HuntStop, Report, Row, SearchSpan, clock_text, counts_text, row_text, schedule_text,
-    shortest,
+    shortest, unreached_text,
 };
+use hunt_space::ReachedText;
 
 /// The status of a hunt that has found a failure.
 const FOUND: u8 = 1;
+
+/// What a hunt came to.
+#[derive(Drop)]
+pub(crate) struct Hunted {
+    pub(crate) report: Report,
+    pub(crate) span: SearchSpan,
+    /// What of the program's text every schedule together has reached.
+    pub(crate) text: Option<ReachedText>,
+}
 
 /// What a hunt shows of its failures.
 #[derive(Drop)]
@@ -129,6 +139,39 @@ fn tell_clock<S: System>(
     Ok(first_failed(status, USAGE))
 }
 
+// Shows which text no schedule reaches; the status.
+fn tell_gaps<S: System>(
+    job: &HuntJob<'_>,
+    reached: &ReachedText,
+    world: &mut World<S>,
+) -> Result<u8, NoMemory> {
+    let mut from = 0;
+    let mut status = 0;
+    for _ in 0..reached.count() {
+        let Some(gap) = reached.gap(from) else {
+            return Ok(status);
+        };
+        let text = unreached_text(job.target.alloc, gap.address, gap.bytes, job.names)?;
+        status = first_failed(status, show(PROGRAM, text.as_str(), world));
+        from = gap.address.saturating_add(gap.bytes);
+    }
+    Ok(status)
+}
+
+// Shows which text no schedule reaches, where all schedules were looked at and none fails; the status.
+fn tell_unreached<S: System>(
+    job: &HuntJob<'_>,
+    hunted: &Hunted,
+    world: &mut World<S>,
+) -> Result<u8, NoMemory> {
+    match &hunted.text {
+        Some(reached) if hunted.report.rows.is_empty() && !hunted.report.cut => {
+            tell_gaps(job, reached, world)
+        }
+        _ => Ok(0),
+    }
+}
+
 /// Shows what a hunt came to, and returns the status.
 ///
 /// # Errors
@@ -136,10 +179,10 @@ fn tell_clock<S: System>(
 /// Memory was refused: nothing more is shown.
 pub(crate) fn tell<S: System>(
     job: &HuntJob<'_>,
-    report: &Report,
-    span: SearchSpan,
+    hunted: &Hunted,
     world: &mut World<S>,
 ) -> Result<u8, HuntStop> {
+    let report = &hunted.report;
     let mut results = Results::new(*job);
     let mut status = 0;
     for row in &report.rows {
@@ -150,12 +193,13 @@ pub(crate) fn tell<S: System>(
         tell_asked(report.asked, world);
     }
     let mut found = if report.rows.is_empty() { 0 } else { FOUND };
-    if let SearchSpan::All(counts) = span
+    status = first_failed(status, tell_unreached(job, hunted, world)?);
+    if let SearchSpan::All(counts) = hunted.span
         && let Some(address) = counts.clock
     {
         found = first_failed(found, tell_clock(job, address, world)?);
     }
-    let text = counts_text(job.target.alloc, report, span)?;
+    let text = counts_text(job.target.alloc, report, hunted.span)?;
     status = first_failed(status, show(PROGRAM, text.as_str(), world));
     status = first_failed(status, found);
     Ok(status)

@@ -216,6 +216,10 @@ fn add_orders<O: Onlooker>(
     ensures found { OnOk result (AreFound target.now.image.now target.now.boot.now target.now.wanted.now.lines report.new.rows.items) }
     ensures rows { OnOk result (report.new.rows.items ≡ [] → report.old.rows.items ≡ []) }
 {
+    // they are large, so they are moved only where they are looked at
+    if report.orders.is_none() {
+        return Ok(());
+    }
     let Some(mut orders) = report.orders.take() else {
         return Ok(());
     };

@@ -32,7 +32,7 @@ pub use hunting::{
 };
 pub use key::{FailureKey, kind_name};
 pub use onlooker::Onlooker;
-pub use reporting::{clock_text, counts_text, row_text, schedule_text};
+pub use reporting::{clock_text, counts_text, row_text, schedule_text, unreached_text};
 pub use script::{failing_script, journal_text};
 pub use shortening::{PLAY_LIMIT, PLAYED_LIMIT, shorten};
 pub use switching::{Switching, hunt_all};

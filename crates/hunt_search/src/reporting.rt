@@ -61,6 +61,19 @@ fn push_clock(out: &mut String, address: u64, names: &Names) -> Result<(), Refus
     push_text(out, "\n")
 }
 
+// Appends where text begins that no schedule reaches, and how many bytes it has.
+fn push_unreached(
+    out: &mut String,
+    address: u64,
+    bytes: u64,
+    names: &Names,
+) -> Result<(), Refused> {
+    push_text(out, "unreached ")?;
+    push_place(out, address, names)?;
+    push_number(out, " bytes ", bytes)?;
+    push_text(out, "\n")
+}
+
 fn push_row(out: &mut String, row: &Row, names: &Names) -> Result<(), Refused> {
     push_key(out, &row.key, names)?;
     if let Some(failure) = row.failure {
@@ -194,6 +207,22 @@ pub fn schedule_text(
 pub fn clock_text(alloc: Global, address: u64, names: &Names) -> Result<String, NoMemory> {
     let mut text = String::new(alloc);
     let pushed = push_clock(&mut text, address, names);
+    whole(pushed, text)
+}
+
+/// The line of text that no schedule reaches: `unreached PLACE bytes N`.
+///
+/// # Errors
+///
+/// Memory was refused.
+pub fn unreached_text(
+    alloc: Global,
+    address: u64,
+    bytes: u64,
+    names: &Names,
+) -> Result<String, NoMemory> {
+    let mut text = String::new(alloc);
+    let pushed = push_unreached(&mut text, address, bytes, names);
     whole(pushed, text)
 }
 

@@ -179,6 +179,7 @@ pub(crate) fn explore(
 {
     let awake = awake_processors(machine);
     tally.add_end(is_ended(machine, awake.as_slice(), going.target.wanted.lines));
+    tally.text.note_all(machine, awake.as_slice());
     match open(going, machine, steps, awake.as_slice(), *trail, frontier) {
         Ok(true) => {}
         Ok(false) => return Ok(Some(RunOutcome::Full)),

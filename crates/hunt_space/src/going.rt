@@ -2,6 +2,7 @@
 
 use crate::clock::TickBound;
 use crate::path::Path;
+use crate::reached::ReachedText;
 use crate::text::TextSpan;
 use hunt_schedules::{AnyDevice, Machine, RunOutcome};
 use hunt_search::Target;
@@ -32,18 +33,24 @@ pub(crate) struct Position<'a> {
 }
 
 /// What is counted of a search.
-#[derive(Clone, Copy, Debug)]
+#[derive(Debug, Drop)]
 pub(crate) struct Tally {
     /// The events that were made for the first time.
     pub(crate) events: u64,
     /// The states at which nothing more can happen.
     pub(crate) ends: u64,
+    /// What of the program's text was reached.
+    pub(crate) text: ReachedText,
 }
 
 impl Tally {
-    /// Nothing was counted.
-    pub(crate) fn new() -> Tally {
-        Tally { events: 0, ends: 0 }
+    /// Nothing was counted, and nothing of a text reached.
+    pub(crate) fn new(text: ReachedText) -> Tally {
+        Tally {
+            events: 0,
+            ends: 0,
+            text,
+        }
     }
 
     /// Counts an event.

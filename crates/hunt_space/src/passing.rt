@@ -7,7 +7,7 @@ ghost use Rattle.hunt_space.specs.Going.{LeadsTo};
 ghost use Rattle.hunt_space.specs.Passing.{ComesOfRow, PassesRows};
 ghost use Rattle.hunt_space.specs.Space.{KeepsPlaces};
 
-use crate::going::Going;
+use crate::going::{Going, Tally};
 use crate::visited::{StatePlace, Visited};
 use evm_model::Event;
 use evm_room::NoMemory;
@@ -22,6 +22,7 @@ fn pass_row(
     machine: &mut Machine<AnyDevice>,
     steps: u32,
     visited: &mut Visited,
+    tally: &mut Tally,
 ) -> Result<bool, NoMemory>
     ensures keeps { KeepsPlaces visited.old.places.items visited.new.places.items }
     ensures comes { IfOk result (λ passed. ComesOfRow going.now steps machine.old machine.new visited.old.places.items visited.new.places.items passed) }
@@ -36,6 +37,7 @@ fn pass_row(
     if !going.text.is_next(machine, cpu) {
         return Ok(false);
     }
+    tally.text.note(machine, cpu);
     match machine.apply(Event::Step(cpu)) {
         Ok(_) => {}
         Err(_) => return Ok(false),
@@ -60,6 +62,7 @@ pub(crate) fn pass_rows(
     machine: &mut Machine<AnyDevice>,
     from: u32,
     visited: &mut Visited,
+    tally: &mut Tally,
 ) -> Result<u32, NoMemory>
     requires { LeadsTo going.now from machine.old }
     ensures keeps { KeepsPlaces visited.old.places.items visited.new.places.items }
@@ -70,7 +73,7 @@ pub(crate) fn pass_rows(
 {
     let mut steps = from;
     'rows: for _ in 0..ROWS {
-        match pass_row(going, machine, steps, visited) {
+        match pass_row(going, machine, steps, visited, tally) {
             Ok(true) => steps += 1,
             Ok(false) => return Ok(steps),
             Err(fault) => return Err(fault),

@@ -16,6 +16,7 @@ use crate::clock::TickBound;
 use crate::frontier::Frontier;
 use crate::going::{Going, Tally};
 use crate::path::Path;
+use crate::reached::ReachedText;
 use crate::standing::Stand;
 use crate::text::TextSpan;
 use crate::turning::go;
@@ -45,6 +46,8 @@ pub struct SpaceReport {
     pub ends: u64,
     /// Where a call reads the clock or names a time, though any number of ticks may come.
     pub clock: Option<u64>,
+    /// What of the program's text was reached.
+    pub text: ReachedText,
 }
 
 // Which ticks may come, where private rows are taken from, and the machine that has had no event.
@@ -72,22 +75,38 @@ struct Gone {
     count: u32,
 }
 
-// Goes a path, and adds what it came to.
+// Whether a path has ended for want of memory. The search is cut then, and what was found before stands.
+fn is_starved(stop: HuntStop, frontier: &mut Frontier) -> bool
+    ensures paths { frontier.new.paths ≡ frontier.old.paths }
+    ensures cut { frontier.new.cut ≡ false → frontier.old.cut ≡ false }
+    ensures starved { result ≡ true → frontier.new.cut ≡ true }
+{
+    match stop {
+        HuntStop::NoMemory => {
+            frontier.cut = true;
+            true
+        }
+        HuntStop::NoMachine(_) => false,
+    }
+}
+
+// Goes a path, and adds what it came to; whether there was memory for it.
 fn look<O: Onlooker>(
     going: &Going<'_>,
     search: &mut Search,
     report: &mut Report,
     onlooker: &mut O,
-) -> Result<(), HuntStop>
+) -> Result<bool, HuntStop>
     requires found { AreFound going.now.target.image.now going.now.target.boot.now going.now.target.wanted.now.lines report.old.rows.items }
     requires first { BeginsAfresh going.now }
     requires stands { AreStanding going.now.first.now search.old.kept search.old.visited.seen }
     requires there { IsNumbered going.now search.old.frontier.paths.items }
     ensures found { OnOk result (AreFound going.now.target.image.now going.now.target.boot.now going.now.target.wanted.now.lines report.new.rows.items) }
-    ensures stands { OnOk result (AreStanding going.now.first.now search.new.kept search.new.visited.seen) }
+    ensures stands { IfOk result (λ gone. gone ≡ true → AreStanding going.now.first.now search.new.kept search.new.visited.seen) }
     ensures keeps_paths { KeepsPaths search.old.frontier.paths.items search.new.frontier.paths.items }
     ensures keeps_places { KeepsPlaces search.old.visited.places.items search.new.visited.places.items }
     ensures cut { search.new.frontier.cut ≡ false → search.old.frontier.cut ≡ false }
+    ensures starved { IfOk result (λ gone. gone ≡ false → search.new.frontier.cut ≡ true) }
     ensures rows { OnOk result (report.new.rows.items ≡ [] → report.old.rows.items ≡ []) }
     ensures boots { OnOk result ((first : State) × BeginsSearch going.now first × GoodState first) }
     ensures goes { OnOk result (report.new.rows.items ≡ [] → search.new.frontier.cut ≡ false → HasGone going.now search.old.frontier.paths.items search.new.frontier.paths.items search.old.visited.places.items search.new.visited.places.items) }
@@ -103,7 +122,12 @@ fn look<O: Onlooker>(
         &mut search.tally,
     ) {
         Ok(outcome) => outcome,
-        Err(stop) => return Err(stop),
+        Err(stop) => {
+            if is_starved(stop, &mut search.frontier) {
+                return Ok(false);
+            }
+            return Err(stop);
+        }
     };
     let run = HuntRun {
         seed: u64::from(going.number),
@@ -111,7 +135,7 @@ fn look<O: Onlooker>(
         outcome,
     };
     match note(&target, &run, report, onlooker) {
-        Ok(()) => Ok(()),
+        Ok(()) => Ok(true),
         Err(stop) => Err(stop),
     }
 }
@@ -144,7 +168,10 @@ fn go_paths<O: Onlooker>(
         let path = match search.frontier.get(target.alloc, number) {
             Ok(Some(path)) => path,
             Ok(None) => return Ok(number),
-            Err(fault) => return Err(HuntStop::from(fault)),
+            Err(_) => {
+                search.frontier.cut = true;
+                return Ok(number);
+            }
         };
         let going = Going {
             target: *target,
@@ -155,7 +182,8 @@ fn go_paths<O: Onlooker>(
             first: scope.first,
         };
         match look(&going, search, report, onlooker) {
-            Ok(()) => {}
+            Ok(true) => {}
+            Ok(false) => return Ok(number),
             Err(stop) => return Err(stop),
         }
     }
@@ -172,18 +200,20 @@ fn is_cut(frontier: &Frontier, count: u32) -> bool
     frontier.paths.len() as u64 > u64::from(count)
 }
 
-// What a search came to, where so many of its paths were gone.
-fn told(mut report: Report, search: &Search, count: u32) -> SpaceReport
+// What a search came to, of which some paths were gone.
+fn told(mut report: Report, gone: Gone) -> SpaceReport
     ensures rows { result.report.rows ≡ report.rows }
-    ensures cut { result.report.cut ≡ false → (search.now.frontier.cut ≡ false) × (length search.now.frontier.paths.items ≤ count) }
+    ensures cut { result.report.cut ≡ false → (gone.search.frontier.cut ≡ false) × (length gone.search.frontier.paths.items ≤ gone.count) }
 {
-    report.set_cut(is_cut(&search.frontier, count));
+    let search = gone.search;
+    report.set_cut(is_cut(&search.frontier, gone.count));
     SpaceReport {
         report,
         states: search.visited.places.len() as u64,
         events: search.tally.events,
         ends: search.tally.ends,
         clock: search.frontier.clock,
+        text: search.tally.text,
     }
 }
 
@@ -239,12 +269,16 @@ fn begun(target: &Target<'_>, states: u32) -> Result<Search, HuntStop>
         Ok(visited) => visited,
         Err(fault) => return Err(HuntStop::from(fault)),
     };
+    let text = match ReachedText::new(target.alloc, TextSpan::of_image(target.image)) {
+        Ok(text) => text,
+        Err(fault) => return Err(HuntStop::from(fault)),
+    };
     Ok(Search {
         machine,
         kept,
         frontier,
         visited,
-        tally: Tally::new(),
+        tally: Tally::new(text),
     })
 }
 
@@ -306,11 +340,11 @@ fn search_all<O: Onlooker>(
 }
 
 /// Makes each event that may come at each state, up to states that are alike to one that was visited. In place of a seed a failure has the
-/// number of its path.
+/// number of its path. Where memory is refused, the search is cut.
 ///
 /// # Errors
 ///
-/// Memory was refused, or no machine boots with the image.
+/// Memory was refused before the first path, or for a failure, or no machine boots with the image.
 pub fn hunt_space<O: Onlooker>(
     target: &Target<'_>,
     bounds: &SpaceBounds,
@@ -326,5 +360,5 @@ pub fn hunt_space<O: Onlooker>(
         Ok(gone) => gone,
         Err(stop) => return Err(stop),
     };
-    Ok(told(report, &gone.search, gone.count))
+    Ok(told(report, gone))
 }

@@ -49,8 +49,8 @@ impl TextSpan {
         TextSpan::of_image(target.image)
     }
 
-    // The bytes of the segment that has the entry.
-    fn of_image(image: &Image) -> TextSpan {
+    /// The bytes of the segment that has the entry.
+    pub(crate) fn of_image(image: &Image) -> TextSpan {
         for segment in image.segments() {
             let low = segment.address();
             let span = TextSpan {

@@ -57,7 +57,7 @@ pub(crate) fn go_on(
             Ok(Arrival::Cut) => return Ok(RunOutcome::Full),
             Err(stop) => return Err(stop),
         }
-        let last = match pass_rows(going, machine, steps, visited) {
+        let last = match pass_rows(going, machine, steps, visited, tally) {
             Ok(last) => last,
             Err(fault) => return Err(HuntStop::from(fault)),
         };
