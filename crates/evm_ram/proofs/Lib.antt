@@ -1,2 +1,4 @@
 pub mod Bytes
 pub mod Places
+mod SameBytes
+pub mod Written

@@ -1,3 +1,4 @@
+pub mod Blocks
 pub mod Bytes
 pub mod Images
 pub mod Laws

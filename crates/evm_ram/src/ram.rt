@@ -1,9 +1,12 @@
-ghost use Rattle.std.specs.Prelude.{◌≡◌, ◌+◌, ◌-◌, ◌*◌, ◌^◌, ◌≤◌, ◌<◌, ℕ, List, length, replicate, if◌then◌else◌, Option, Some, None, option_copied, IfErr, IfOk, MatchOption};
+ghost use Rattle.std.specs.Prelude.{◌≡◌, ◌+◌, ◌-◌, ◌*◌, ◌^◌, ◌≤◌, ◌<◌, ℕ, List, true, length, replicate, if◌then◌else◌, Option, Some, None, option_copied, IfErr, IfOk, MatchOption};
 ghost use Rattle.std.specs.Option.{IfNone, IfSome};
 ghost use Rattle.evm_ram.specs.Bytes.{little_endian};
 ghost use Rattle.evm_ram.specs.Width.{bytes_of};
 ghost use Rattle.evm_ram.specs.Ram.{is_inside, bytes_at, read_at, poke_at, write_at};
 
+use crate::blocks::Blocks;
+use crate::copies::copy_written;
+use crate::same::{same_bytes, same_written};
 use crate::width::Width;
 use evm_room::{Refused, copies};
 use std::alloc::Global;
@@ -20,18 +23,23 @@ pub const SIZE_LIMIT: u64 = 16_777_216;
 #[derive(Debug, Drop)]
 pub struct Ram {
     bytes: BoxedSlice<u8>,
+    blocks: Blocks,
 }
 
 impl Model for Ram {
     ghost use Rattle.std.specs.Prelude.{◌≤◌, ℕ, List, length};
     ghost use Rattle.std.specs.Box.{boxed_slice_items};
+    ghost use Rattle.evm_ram.specs.Blocks.{Cover, IsZeroElsewhere};
     ghost use Rattle.evm_ram.specs.declared.ram.TheConstants.{SIZE_LIMIT};
 
     ghost Value = { List ℕ };
 
     ghost view = { λ ram. boxed_slice_items ram.bytes };
 
-    ghost invariant = { λ ram. length (boxed_slice_items ram.bytes) ≤ SIZE_LIMIT };
+    ghost invariant = { λ ram.
+        (length (boxed_slice_items ram.bytes) ≤ SIZE_LIMIT)
+        × Cover ram.blocks.shift (length (boxed_slice_items ram.bytes))
+        × IsZeroElsewhere (boxed_slice_items ram.bytes) ram.blocks.written ram.blocks.shift };
 }
 
 impl Ram {
@@ -42,7 +50,10 @@ impl Ram {
         ensures refused { IfErr result (λ asked. asked ≡ size) }
     {
         let bytes = copies(alloc, 0u8, size as usize)?;
-        Ok(Ram { bytes })
+        Ok(Ram {
+            bytes,
+            blocks: Blocks::new(size),
+        })
     }
 
     /// The number of bytes.
@@ -104,6 +115,7 @@ impl Ram {
             return Some(());
         }
         let start = self.place(address, bytes.len() as u64)?;
+        self.blocks.mark(start, bytes.len());
         self.bytes[start..start + bytes.len()].copy_from_slice(bytes);
         Some(())
     }
@@ -129,8 +141,46 @@ impl Ram {
     pub fn clear(&mut self)
         ensures { self.new ≡ replicate (length self.old) 0 }
     {
-        self.bytes.fill(0);
+        clear_all(&mut self.bytes);
+        self.blocks.written = [false; 64];
     }
+
+    /// RAM has the bytes of another of its size. Only blocks that were written in one of both are copied.
+    pub fn copy_from(&mut self, other: &Ram)
+        requires { length self.old ≡ length other.now }
+        ensures { self.new ≡ other.now }
+    {
+        if self.blocks.shift == other.blocks.shift {
+            copy_written(&mut self.bytes, &other.bytes, &self.blocks, &other.blocks);
+        } else {
+            self.bytes.copy_from_slice(&other.bytes);
+        }
+        self.blocks = other.blocks;
+    }
+
+    /// Whether the bytes are those of another RAM. Only blocks that were written in one of both are compared.
+    pub fn is_same(&self, other: &Ram) -> bool
+        ensures { result ≡ true → self.now ≡ other.now }
+    {
+        if self.size() != other.size() {
+            return false;
+        }
+        if self.blocks.shift != other.blocks.shift {
+            return same_bytes(self.as_slice(), other.as_slice());
+        }
+        same_written(
+            self.as_slice(),
+            other.as_slice(),
+            &self.blocks,
+            &other.blocks,
+        )
+    }
+}
+
+fn clear_all(bytes: &mut [u8])
+    ensures { bytes.new ≡ replicate (length bytes.old) 0 }
+{
+    bytes.fill(0);
 }
 
 /// Where `count` bytes from `address` on begin in RAM's bytes; None if and only if one of them is outside.
