@@ -39,7 +39,7 @@ fn apply_other(machine: &mut Machine<Pins>, line: &Line) {
         Line::One(event) => {
             let _ = machine.apply(event.lend());
         }
-        Line::Blank | Line::Boot(_) | Line::Look(_) => {}
+        Line::Blank | Line::Boot(_) | Line::Show(_) => {}
     }
 }
 

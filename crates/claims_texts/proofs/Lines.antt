@@ -54,7 +54,7 @@ line-goes n t s lines.Blank e = record { text = []; same = ap (Goes []) e }
 line-goes n t s (lines.Boot boot) e = cc
 line-goes n t s (lines.Steps c count) e = steps-go n c s (steps c count t).0 (steps c count t).1 e
 line-goes n t s (lines.One event) e = event-goes n event (apply t event) s e
-line-goes n t s (lines.Look view) e = view-goes n view s t (shown view t) e
+line-goes n t s (lines.Show view) e = view-goes n view s t (shown view t) e
 
 read-goes : (options : RunOptions) (n : ℕ) (t s : State) (line : Option Line) → after_read line t ≡ Some s → GoesWith (line_outcome options n (Some t) line) s
 read-goes options n t s None e = cc
@@ -66,7 +66,7 @@ first-goes devices image n s (Some lines.Blank) e = cc
 first-goes devices image n s (Some (lines.Boot boot)) e = boot-goes n (bad_boot boot) (load image (start devices boot)) s e
 first-goes devices image n s (Some (lines.Steps c count)) e = cc
 first-goes devices image n s (Some (lines.One event)) e = cc
-first-goes devices image n s (Some (lines.Look view)) e = cc
+first-goes devices image n s (Some (lines.Show view)) e = cc
 
 -- the others of a run leave this machine, and are all done
 record LeaveFrom (others : Option State → Option State) (report : Option State → Report) (t s : State) : Type 0 where

@@ -15,8 +15,8 @@ use Rattle.evm_serve.specs.Script.{Report, LineOutcome, Goes, Ends, behind, run_
 use Rattle.evm_serve.specs.declared.ending.Verdict.TheVariants.{Done}
 use Rattle.claims_texts.specs.Scripts.{goes_on, machine_after, PrintsItsJournal}
 
-journal-line : line_at (codes "journal") ≡ Some (lines.Look Journal)
-journal-line = (reads_lines (lines.Look Journal) (codes "journal")).1 (refl, tt)
+journal-line : line_at (codes "journal") ≡ Some (lines.Show Journal)
+journal-line = (reads_lines (lines.Show Journal) (codes "journal")).1 (refl, tt)
 
 -- a text in front of a report
 front : (text : List ℕ) (a b : Report) (more : List ℕ) → a ≡ record { text = b.text ++ more; verdict = Done } → behind text a ≡ record { text = (behind text b).text ++ more; verdict = Done }

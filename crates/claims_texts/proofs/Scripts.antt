@@ -76,12 +76,12 @@ spelled-leads devices image n None lines.Blank bytes h d = tt
 spelled-leads devices image n None (lines.Boot boot) bytes h d = boot-leads devices image n boot (started (image_options devices image) boot) refl (has_boot_line boot bytes h)
 spelled-leads devices image n None (lines.Steps c count) bytes h d = tt
 spelled-leads devices image n None (lines.One event) bytes h d = tt
-spelled-leads devices image n None (lines.Look view) bytes h d = tt
+spelled-leads devices image n None (lines.Show view) bytes h d = tt
 spelled-leads devices image n (Some s) lines.Blank bytes h d = d
 spelled-leads devices image n (Some s) (lines.Boot boot) bytes h d = tt
 spelled-leads devices image n (Some s) (lines.Steps c count) bytes h d = steps-lead devices image n c count s (steps c count s).0 (steps c count s).1 refl h.1.0 d
 spelled-leads devices image n (Some s) (lines.One event) bytes h d = event-leads devices image n s event (apply s event) refl (one-line event h.1) d
-spelled-leads devices image n (Some s) (lines.Look view) bytes h d = view-leads devices image n view s (shown view s) d
+spelled-leads devices image n (Some s) (lines.Show view) bytes h d = view-leads devices image n view s (shown view s) d
 
 line-leads : (devices : List Attached) (image : Contents) (n : ℕ) (machine : Option State) (bytes : List ℕ) (o : Option Line) → line_at bytes ≡ o → AreDriven devices image machine → LeadsOn devices image (line_outcome (image_options devices image) n machine o)
 line-leads devices image n machine bytes None e d = tt

@@ -20,7 +20,7 @@ use Rattle.evm_journal.proofs.Lines.{IsLine, row_is_line, line_is_row}
 use Rattle.evm_debug.specs.declared.line.View.{View}
 use Rattle.evm_debug.specs.declared.line.View.TheVariants.{Regs}
 use Rattle.evm_debug.specs.declared.line.Line.{Line}
-use Rattle.evm_debug.specs.declared.line.Line.TheVariants.{Blank, Boot, Steps, One, Look}
+use Rattle.evm_debug.specs.declared.line.Line.TheVariants.{Blank, Boot, Steps, One, Show}
 use Rattle.evm_debug.specs.Line.{bare_rows, view_rows, view_row, view_text, HasViewLine, script_line, script_rows, script_unwatched, script_watched, is_blank_line, IsBootLine, IsSpelled}
 use Rattle.evm_debug.specs.LineReading.{either_form, script_boot_at, line_at, ReadsLines}
 
@@ -57,22 +57,22 @@ events_spelled (events.One event) bytes is = is
 
 row_is_spelled : (line : Line) (bytes : List ℕ) → IsRowOf script_rows line bytes → IsSpelled line bytes
 row_is_spelled line bytes is =
-    elim (row_of_either (rows_as Look view_rows) (rows_as script_line event_rows) line bytes is) [
+    elim (row_of_either (rows_as Show view_rows) (rows_as script_line event_rows) line bytes is) [
       | inl view ↦
-          let a = row_as_takes Look view_rows line bytes view in
+          let a = row_as_takes Show view_rows line bytes view in
           subst (λ (x : Line). IsSpelled x bytes) a.2 (row_is IsView view_rows a.0 bytes each_view a.1)
       | inr event ↦
           let a = row_as_takes script_line event_rows line bytes event in
           subst (λ (x : Line). IsSpelled x bytes) a.2 (events_spelled a.0 bytes (row_is_line a.0 bytes a.1))
     ]
 
-view_is_spelled : (view : View) (bytes : List ℕ) → IsView view bytes → IsRowOf script_rows (Look view) bytes
+view_is_spelled : (view : View) (bytes : List ℕ) → IsView view bytes → IsRowOf script_rows (Show view) bytes
 view_is_spelled view bytes is =
-    row_of_first (rows_as Look view_rows) (rows_as script_line event_rows) (Look view) bytes (row_as_again Look view_rows view bytes (view_is_row view bytes is))
+    row_of_first (rows_as Show view_rows) (rows_as script_line event_rows) (Show view) bytes (row_as_again Show view_rows view bytes (view_is_row view bytes is))
 
 event_is_spelled : (line : EventLine) (bytes : List ℕ) → IsRowOf event_rows line bytes → IsRowOf script_rows (script_line line) bytes
 event_is_spelled line bytes is =
-    row_of_second (rows_as Look view_rows) (rows_as script_line event_rows) (script_line line) bytes (row_as_again script_line event_rows line bytes is)
+    row_of_second (rows_as Show view_rows) (rows_as script_line event_rows) (script_line line) bytes (row_as_again script_line event_rows line bytes is)
 
 -- ---- a boot line
 
@@ -282,7 +282,7 @@ line_again Blank bytes is = blank_read bytes is
 line_again (Boot boot) bytes is = boot_again boot bytes is
 line_again (Steps cpu count) bytes is = event_read (events.Steps cpu count) bytes (line_is_row (events.Steps cpu count) bytes is)
 line_again (One event) bytes is = event_read (events.One event) bytes (line_is_row (events.One event) bytes is)
-line_again (Look view) bytes is = row_read (Look view) bytes (view_is_spelled view bytes is)
+line_again (Show view) bytes is = row_read (Show view) bytes (view_is_spelled view bytes is)
 
 pub reads_lines : ReadsLines
 reads_lines line bytes = (line_takes bytes line, line_again line bytes)

@@ -11,7 +11,7 @@ use Rattle.evm_model.specs.declared.limits.TheConstants.{PROFILE_LIMIT}
 use Rattle.evm_debug.specs.declared.line.View.{View}
 use Rattle.evm_debug.specs.declared.line.View.TheVariants.{Regs, Mem, Stages, Tasks, Owners, Rank, Notices, Counts, Journal, Console, Words}
 use Rattle.evm_debug.specs.declared.line.Line.{Line}
-use Rattle.evm_debug.specs.declared.line.Line.TheVariants.{Blank, Boot, Steps, One, Look}
+use Rattle.evm_debug.specs.declared.line.Line.TheVariants.{Blank, Boot, Steps, One, Show}
 
 -- ---- views
 
@@ -85,11 +85,11 @@ script_line (events.One event) = One event
 
 -- what a view says whose keyword is all of its line, where nothing stands behind
 abbrev pub bare_said : View → List ℕ → Option Line
-bare_said view rest = values_at [] rest >>= λ values. Some (Look view)
+bare_said view rest = values_at [] rest >>= λ values. Some (Show view)
 
 -- the lines of a script but boot lines, of which two forms begin alike
 abbrev pub script_rows : List (LineRow Line)
-script_rows = rows_as Look view_rows ++ rows_as script_line event_rows
+script_rows = rows_as Show view_rows ++ rows_as script_line event_rows
 
 -- the rows of a boot line: a machine of the newest profile without a watchdog's number, or with it
 abbrev pub script_unwatched : LineRow Numbers
@@ -116,4 +116,4 @@ IsSpelled Blank bytes = is_blank_line bytes ≡ true
 IsSpelled (Boot boot) bytes = IsBootLine boot bytes
 IsSpelled (Steps cpu count) bytes = (bytes ≡ event_line_text (events.Steps cpu count)) × HasEventLine (events.Steps cpu count)
 IsSpelled (One event) bytes = (bytes ≡ event_line_text (events.One event)) × HasEventLine (events.One event)
-IsSpelled (Look view) bytes = (bytes ≡ view_text view) × HasViewLine view
+IsSpelled (Show view) bytes = (bytes ≡ view_text view) × HasViewLine view

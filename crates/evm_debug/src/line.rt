@@ -41,7 +41,7 @@ pub enum Line {
     /// Any other event.
     One(Event),
     /// A view.
-    Look(View),
+    Show(View),
 }
 
 /// The line is outside the grammar.

@@ -5,7 +5,7 @@ ghost use Rattle.evm_journal.specs.evm_text.Rows.{said_at, rows_at, row_as, rows
 ghost use Rattle.evm_journal.specs.EventLine.{event_rows, poke_row, poke_said, short_rows};
 ghost use Rattle.evm_debug.specs.Line.{mem_row, counts_row, bare_rows, bare_said, view_rows, script_line, is_blank_line, IsSpelled};
 ghost use Rattle.evm_debug.specs.LineReading.{script_boot_at, line_at};
-ghost use Rattle.evm_debug.specs.declared.line.Line.TheVariants.{Look};
+ghost use Rattle.evm_debug.specs.declared.line.Line.TheVariants.{Show};
 
 use crate::line::{Bad, Line, View};
 use evm_journal::{
@@ -35,17 +35,17 @@ fn boot_at(bytes: &[u8]) -> Option<Boot>
 }
 
 fn mem_at(bytes: &[u8]) -> Option<Line>
-    ensures { result ≡ said_at (row_as Look mem_row) bytes.now }
+    ensures { result ≡ said_at (row_as Show mem_row) bytes.now }
 {
     let (address, rest) = hexadecimal_then(bytes)?;
-    Some(Line::Look(View::Mem(address, decimal_last(rest)?)))
+    Some(Line::Show(View::Mem(address, decimal_last(rest)?)))
 }
 
 fn counts_at(bytes: &[u8]) -> Option<Line>
-    ensures { result ≡ said_at (row_as Look counts_row) bytes.now }
+    ensures { result ≡ said_at (row_as Show counts_row) bytes.now }
 {
     let (cpu, rest) = u8_then(bytes)?;
-    Some(Line::Look(View::Counts(cpu, u8_last(rest)?)))
+    Some(Line::Show(View::Counts(cpu, u8_last(rest)?)))
 }
 
 // A view whose keyword is all of its line.
@@ -53,7 +53,7 @@ fn bare(view: View, rest: &[u8]) -> Option<Line>
     ensures { result ≡ bare_said view rest.now }
 {
     if rest.is_empty() {
-        Some(Line::Look(view))
+        Some(Line::Show(view))
     } else {
         None
     }
@@ -69,7 +69,7 @@ fn events_at(bytes: &[u8]) -> Option<Line>
 }
 
 fn bare_at(bytes: &[u8]) -> Option<Line>
-    ensures { result ≡ rows_at (rows_as Look bare_rows ++ rows_as script_line event_rows) bytes.now }
+    ensures { result ≡ rows_at (rows_as Show bare_rows ++ rows_as script_line event_rows) bytes.now }
 {
     if let Some(rest) = after_word(b"tasks", bytes) {
         return bare(View::Tasks, rest);
@@ -90,25 +90,25 @@ fn bare_at(bytes: &[u8]) -> Option<Line>
 }
 
 fn view_at(bytes: &[u8]) -> Option<Line>
-    ensures { result ≡ rows_at (rows_as Look view_rows ++ rows_as script_line event_rows) bytes.now }
+    ensures { result ≡ rows_at (rows_as Show view_rows ++ rows_as script_line event_rows) bytes.now }
 {
     if let Some(rest) = after_word(b"regs ", bytes) {
-        return Some(Line::Look(View::Regs(u8_last(rest)?)));
+        return Some(Line::Show(View::Regs(u8_last(rest)?)));
     }
     if let Some(rest) = after_word(b"mem ", bytes) {
         return mem_at(rest);
     }
     if let Some(rest) = after_word(b"stages ", bytes) {
-        return Some(Line::Look(View::Stages(u8_last(rest)?)));
+        return Some(Line::Show(View::Stages(u8_last(rest)?)));
     }
     if let Some(rest) = after_word(b"rank ", bytes) {
-        return Some(Line::Look(View::Rank(u8_last(rest)?)));
+        return Some(Line::Show(View::Rank(u8_last(rest)?)));
     }
     if let Some(rest) = after_word(b"counts ", bytes) {
         return counts_at(rest);
     }
     if let Some(rest) = after_word(b"words ", bytes) {
-        return Some(Line::Look(View::Words(u8_last(rest)?)));
+        return Some(Line::Show(View::Words(u8_last(rest)?)));
     }
     bare_at(bytes)
 }

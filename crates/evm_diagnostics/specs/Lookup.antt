@@ -16,7 +16,7 @@ boot_in (Some (lines.Boot boot)) = Some boot
 boot_in (Some lines.Blank) = None
 boot_in (Some (lines.Steps c count)) = None
 boot_in (Some (lines.One event)) = None
-boot_in (Some (lines.Look view)) = None
+boot_in (Some (lines.Show view)) = None
 boot_in None = None
 
 abbrev pub boot_of : List ℕ → Option Boot

@@ -36,7 +36,7 @@ fn other_line_detail(line: &Line, is_cut: bool) -> &'static str {
     match line {
         Line::Blank => "bad line: a journal has no comments and no empty lines",
         Line::Boot(_) => "bad line: only line 2 of a journal is a boot line",
-        Line::Look(_) => "bad line: a journal has no views",
+        Line::Show(_) => "bad line: a journal has no views",
         Line::Steps(_, _) | Line::One(_) => {
             if is_cut {
                 "bad line: no newline at the end of the journal"

@@ -51,7 +51,7 @@ fn boot_detail(boot: &Boot) -> Message {
 fn size_detail(line: Option<&Line>) -> Message {
     match line {
         Some(Line::Boot(boot)) => boot_detail(boot),
-        Some(Line::Blank | Line::Steps(_, _) | Line::One(_) | Line::Look(_)) | None => {
+        Some(Line::Blank | Line::Steps(_, _) | Line::One(_) | Line::Show(_)) | None => {
             refusal_message(None, Refusal::BadSize)
         }
     }
@@ -183,7 +183,7 @@ fn address_detail(image: Option<&Image>, ram: u64, line: Option<&Line>) -> Messa
             past_detail(end, image_past(end, image))
         }
         Some(Line::One(event)) => event_detail(ram_end(ram), event),
-        Some(Line::Look(view)) => view_detail(ram_end(ram), view),
+        Some(Line::Show(view)) => view_detail(ram_end(ram), view),
         Some(Line::Blank | Line::Steps(_, _)) | None => {
             refusal_message(None, Refusal::BadAddress)
         }
@@ -193,7 +193,7 @@ fn address_detail(image: Option<&Image>, ram: u64, line: Option<&Line>) -> Messa
 // Where there is no slot: a breakpoint too many, or a device that is not there.
 fn slot_detail(line: Option<&Line>) -> Message {
     match line {
-        Some(Line::Look(View::Words(i))) => Message::WithOne(
+        Some(Line::Show(View::Words(i))) => Message::WithOne(
             "refused: there is no device ",
             Numeral::Decimal(u64::from(*i)),
             " (NoSlot, 8)",
@@ -206,7 +206,7 @@ fn slot_detail(line: Option<&Line>) -> Message {
 fn interrupt_of(line: Option<&Line>) -> Option<u8> {
     match line {
         Some(Line::One(Event::Raise(_, number) | Event::Bell(_, number))) => Some(*number),
-        Some(Line::Look(View::Counts(_, number))) => Some(*number),
+        Some(Line::Show(View::Counts(_, number))) => Some(*number),
         _ => None,
     }
 }

@@ -18,7 +18,7 @@ use Rattle.evm_diagnostics.specs.evm_core.Steps.{steps, behind_step}
 use Rattle.evm_diagnostics.specs.evm_debug.LineReading.{line_at}
 use Rattle.evm_diagnostics.specs.evm_debug.Views.{shown}
 use Rattle.evm_diagnostics.specs.evm_debug.declared.line.Line.{Line}
-use Rattle.evm_diagnostics.specs.evm_debug.declared.line.Line.TheVariants.{Blank, Boot as Boots, Steps, One, Look}
+use Rattle.evm_diagnostics.specs.evm_debug.declared.line.Line.TheVariants.{Blank, Boot as Boots, Steps, One, Show}
 use Rattle.evm_diagnostics.specs.evm_core.Journaled.{AreJournaled}
 use Rattle.evm_diagnostics.proofs.evm_journal.Machines.{machine_journal}
 use Rattle.evm_serve.specs.Scripted.{IsScripted, after_event, unless_refused, after_view, after_line, after_read, after_lines, with_state, loaded_state, booted_by, script_machine}
@@ -87,7 +87,7 @@ line_more devices image Blank s t e h = subst (IsReplayed devices image) (same_s
 line_more devices image (Boots boot) s t e h = absurd cc
 line_more devices image (Steps c n) s t e h = subst (IsReplayed devices image) (unrefused (steps c n s).1 (steps c n s).0 t e) (steps_more devices image c n s h)
 line_more devices image (One event) s t e h = event_more devices image s t event (apply s event) refl e h
-line_more devices image (Look view) s t e h = subst (IsReplayed devices image) (viewed (shown view s) s t e) h
+line_more devices image (Show view) s t e h = subst (IsReplayed devices image) (viewed (shown view s) s t e) h
 
 read_more : (devices : List Attached) (image : Contents) (o : Option Line) (s t : State) → after_read o s ≡ Some t → IsReplayed devices image s → IsReplayed devices image t
 read_more devices image None s t e h = absurd cc

@@ -36,7 +36,7 @@ line_noted s lines.Blank = None
 line_noted s (lines.Boot boot) = None
 line_noted s (lines.Steps c count) = steps_noted c (is_cpu_stopped c s) (steps c count s)
 line_noted s (lines.One event) = None
-line_noted s (lines.Look view) = None
+line_noted s (lines.Show view) = None
 
 abbrev pub noted_booted : State → Option Line → Option StepNote
 noted_booted s None = None

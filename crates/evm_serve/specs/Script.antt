@@ -59,7 +59,7 @@ unbooted_outcome options n lines.Blank = Goes [] None
 unbooted_outcome options n (lines.Boot boot) = boot_outcome n (started options boot)
 unbooted_outcome options n (lines.Steps c count) = Ends (BadLine n NotBooted)
 unbooted_outcome options n (lines.One event) = Ends (BadLine n NotBooted)
-unbooted_outcome options n (lines.Look view) = Ends (BadLine n NotBooted)
+unbooted_outcome options n (lines.Show view) = Ends (BadLine n NotBooted)
 
 -- a line, if a machine is booted: only one boot line is allowed
 abbrev pub booted_outcome : ℕ → State → Line → LineOutcome
@@ -67,7 +67,7 @@ booted_outcome n s lines.Blank = Goes [] (Some s)
 booted_outcome n s (lines.Boot boot) = Ends (BadLine n BootedAgain)
 booted_outcome n s (lines.Steps c count) = steps_outcome n c (steps c count s)
 booted_outcome n s (lines.One event) = event_outcome n event (apply s event)
-booted_outcome n s (lines.Look view) = view_outcome n view s (shown view s)
+booted_outcome n s (lines.Show view) = view_outcome n view s (shown view s)
 
 abbrev pub outcome_at : RunOptions → ℕ → Option State → Line → LineOutcome
 outcome_at options n None line = unbooted_outcome options n line

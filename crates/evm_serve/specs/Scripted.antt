@@ -11,7 +11,7 @@ use Rattle.evm_diagnostics.specs.evm_core.Steps.{steps}
 use Rattle.evm_diagnostics.specs.evm_debug.LineReading.{line_at}
 use Rattle.evm_diagnostics.specs.evm_debug.Views.{shown}
 use Rattle.evm_diagnostics.specs.evm_debug.declared.line.Line.{Line}
-use Rattle.evm_diagnostics.specs.evm_debug.declared.line.Line.TheVariants.{Blank, Boot, Steps, One, Look}
+use Rattle.evm_diagnostics.specs.evm_debug.declared.line.Line.TheVariants.{Blank, Boot, Steps, One, Show}
 use Rattle.evm_serve.specs.Sitting.{Sitting}
 
 -- ---- what a line makes of a machine: nothing is there where it is refused, or boots once more
@@ -33,7 +33,7 @@ after_line Blank s = Some s
 after_line (Boot boot) s = None
 after_line (Steps c n) s = unless_refused (steps c n s).1 (steps c n s).0
 after_line (One event) s = after_event (apply s event)
-after_line (Look view) s = after_view (shown view s) s
+after_line (Show view) s = after_view (shown view s) s
 
 abbrev pub after_read : Option Line → State → Option State
 after_read None s = None
@@ -45,7 +45,7 @@ text_shown (Ok text) = text
 text_shown (Err refusal) = []
 
 abbrev pub line_text : Option Line → State → List ℕ
-line_text (Some (Look view)) s = text_shown (shown view s)
+line_text (Some (Show view)) s = text_shown (shown view s)
 line_text line s = []
 
 -- ---- a script

@@ -94,7 +94,7 @@ fn run_line<D: Device>(
         Line::Boot(_) => Err(ScriptStop::BootedAgain),
         Line::Steps(c, count) => run_steps(machine, c, count, notes),
         Line::One(event) => run_event(machine, &event, notes),
-        Line::Look(view) => run_view(machine, &view, text),
+        Line::Show(view) => run_view(machine, &view, text),
     }
 }
 

@@ -173,7 +173,7 @@ fn run_booted<D: Device>(
         Line::Boot(_) => Ok(Reply::Ends(InputFault::BadLine(number, LineFault::BootedAgain))),
         Line::Steps(c, count) => Ok(run_steps(number, c, count, machine)),
         Line::One(event) => Ok(run_event(number, event.lend(), machine)),
-        Line::Look(what) => run_view(number, &what, machine, text),
+        Line::Show(what) => run_view(number, &what, machine, text),
     }
 }
 

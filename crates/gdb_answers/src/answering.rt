@@ -95,7 +95,7 @@ fn answer_choice(
     ensures kept { KeepsTape session.old.tape session.new.tape }
 {
     match command {
-        Command::Look(thread) => look_at(session, thread, out),
+        Command::SelectThread(thread) => look_at(session, thread, out),
         Command::Choose(thread) => {
             session.chosen = thread;
             push_bytes(out, b"OK")
@@ -225,7 +225,7 @@ fn answer_order<I: Interrupts>(
         | Command::Remove(_, _)
         | Command::Watch(_, _, _)
         | Command::Unwatch(_, _, _) => answer_points(session, command, &mut reply.payload),
-        Command::Look(_) | Command::Choose(_) | Command::NoAcknowledgements | Command::Detach =>
+        Command::SelectThread(_) | Command::Choose(_) | Command::NoAcknowledgements | Command::Detach =>
             answer_choice(session, command, &mut reply.payload),
         Command::Kill => {
             session.over = !session.extended;

@@ -70,7 +70,7 @@ pub fn run_line<D: Device>(
             Ok(_) => Ok(LineEnd::Done),
             Err(refusal) => Ok(LineEnd::Refused(refusal)),
         },
-        Line::Look(what) => look(machine, &what, text),
+        Line::Show(what) => look(machine, &what, text),
     }
 }
 
@@ -183,7 +183,7 @@ fn run_script_line(
         Err(_) => Ok(LineEnd::Bad),
         Ok(Line::Blank) => Ok(LineEnd::Done),
         Ok(Line::Boot(_)) => Ok(LineEnd::BootsAgain),
-        Ok(Line::Look(what)) => look(&session.tape.machine, &what, text),
+        Ok(Line::Show(what)) => look(&session.tape.machine, &what, text),
         Ok(Line::Steps(_, _)) | Ok(Line::One(_)) => {
             session.forget();
             run_line(&mut session.tape.machine, line, text)

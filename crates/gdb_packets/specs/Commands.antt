@@ -10,7 +10,7 @@ use Rattle.gdb_packets.specs.declared.command.WatchKind.TheVariants.{Write, Read
 use Rattle.gdb_packets.specs.declared.command.Pace.{Pace}
 use Rattle.gdb_packets.specs.declared.command.Pace.TheVariants.{Step, Continue}
 use Rattle.gdb_packets.specs.declared.command.Command.{Command}
-use Rattle.gdb_packets.specs.declared.command.Command.TheVariants.{Why, Registers, SetRegisters, Register, SetRegister, Memory, WriteDigits, WriteBytes, Insert, Remove, Watch, Unwatch, Resume, ResumeThread, Reverse, Look, Choose, IsThread, Looked, Threads, MoreThreads, ThreadText, Supported, Attached, Description, MemoryMap, Monitor, NoAcknowledgements, Actions, Detach, Kill, KillProcess, Extended, Run, Restart}
+use Rattle.gdb_packets.specs.declared.command.Command.TheVariants.{Why, Registers, SetRegisters, Register, SetRegister, Memory, WriteDigits, WriteBytes, Insert, Remove, Watch, Unwatch, Resume, ResumeThread, Reverse, SelectThread, Choose, IsThread, Looked, Threads, MoreThreads, ThreadText, Supported, Attached, Description, MemoryMap, Monitor, NoAcknowledgements, Actions, Detach, Kill, KillProcess, Extended, Run, Restart}
 
 -- ---- parts
 
@@ -184,7 +184,7 @@ restart_said rest = if length rest == 0 then None else Some Restart
 
 unfoldable pub thread_said : List ℕ → Option Command
 thread_said bytes =
-    keyword (after_word (codes "Hg") bytes) (λ rest. thread_last rest >>= λ thread. Some (Look thread))
+    keyword (after_word (codes "Hg") bytes) (λ rest. thread_last rest >>= λ thread. Some (SelectThread thread))
     (keyword (after_word (codes "Hc") bytes) (λ rest. thread_last rest >>= λ thread. Some (Choose thread))
     (keyword (after_word (codes "T") bytes) (λ rest. thread_last rest >>= λ thread. Some (IsThread thread))
     (keyword (after_word (codes "qThreadExtraInfo,") bytes) (λ rest. thread_last rest >>= λ thread. Some (ThreadText thread))

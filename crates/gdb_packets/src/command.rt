@@ -63,7 +63,7 @@ pub enum Command {
     /// `bs`, `bc`: the thread of the last `Hc` goes back.
     Reverse(Pace),
     /// `Hg`: whose registers are asked for from now on.
-    Look(Option<u8>),
+    SelectThread(Option<u8>),
     /// `Hc`: who goes on.
     Choose(Option<u8>),
     /// `T`: whether there is such a thread.

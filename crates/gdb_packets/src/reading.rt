@@ -102,7 +102,7 @@ fn thread_said(bytes: &[u8]) -> Option<Command>
     ensures { result ≡ thread_said bytes.now }
 {
     if let Some(rest) = after_word(b"Hg", bytes) {
-        return Some(Command::Look(thread_last(rest)?));
+        return Some(Command::SelectThread(thread_last(rest)?));
     }
     if let Some(rest) = after_word(b"Hc", bytes) {
         return Some(Command::Choose(thread_last(rest)?));

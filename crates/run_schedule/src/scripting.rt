@@ -185,7 +185,7 @@ impl ScriptRun {
             Ok(Line::Boot(_)) => Err(ScriptFault::Line(number, LineStop::BootedAgain)),
             Ok(Line::Steps(c, count)) => self.make_steps(c, count, number, output),
             Ok(Line::One(event)) => self.make_one(event.lend(), number, output),
-            Ok(Line::Look(look)) => self.show(alloc, &look, number, views),
+            Ok(Line::Show(look)) => self.show(alloc, &look, number, views),
             Err(_) => Err(ScriptFault::Line(number, LineStop::Misspelt)),
         }
     }

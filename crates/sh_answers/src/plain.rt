@@ -87,7 +87,7 @@ fn cpu_of(line: &[u8]) -> Option<u8> {
     match read_line(line) {
         Ok(Line::Steps(c, _)) => Some(c),
         Ok(Line::One(event)) => event_cpu(&event.lend()),
-        Ok(Line::Look(view)) => view_cpu(&view),
+        Ok(Line::Show(view)) => view_cpu(&view),
         _ => None,
     }
 }

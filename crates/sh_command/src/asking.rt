@@ -128,7 +128,7 @@ impl<M: Meter + Drop> Shell<'_, M> {
         };
         let mut line = Page::new(answer.alloc);
         put_plain(&mut line, &self.names, view)?;
-        let Ok(Line::Look(_)) = read_line(line.bytes()) else {
+        let Ok(Line::Show(_)) = read_line(line.bytes()) else {
             return Ok(Outcome::Wanted(EXPECT_FORM));
         };
         let mut seen = LineAnswer::new(answer.alloc, answer.number);

@@ -135,7 +135,7 @@ impl<M: Meter + Drop> Shell<'_, M> {
         }
         let page = &mut answer.page;
         match read_line(line.bytes()) {
-            Ok(Line::Look(view)) => self.decode(&view, page)?,
+            Ok(Line::Show(view)) => self.decode(&view, page)?,
             Ok(Line::Steps(c, count)) if was_stopped(before.as_ref(), c) => {
                 self.tell_swallowed(c, count, page)?;
             }
