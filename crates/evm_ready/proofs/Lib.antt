@@ -2,6 +2,7 @@ pub mod Cleared
 pub mod Counts
 pub mod Filing
 pub mod Firsts
+pub mod Following
 pub mod Leads
 pub mod Listed_turns
 pub mod Members

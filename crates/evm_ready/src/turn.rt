@@ -2,7 +2,7 @@ ghost use Rattle.std.specs.Prelude.{◌≡◌};
 ghost use Rattle.evm_ready.specs.Queues.{precedes, turn_rank, turn_stamp};
 
 /// Which queue a task is in, and by what it has its place there.
-#[derive(Clone, Copy, Debug, Default)]
+#[derive(Clone, Copy, Debug, Default, PartialEq, Eq)]
 pub struct Turn {
     /// The number of the queue; none if the task is in no queue.
     pub queue: Option<u16>,

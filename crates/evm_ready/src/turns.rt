@@ -1,4 +1,4 @@
-ghost use Rattle.std.specs.Prelude.{◌≡◌, ◌≤◌, ◌<◌, ◌+◌, ◌*◌, ◌++◌, ◌∷◌, ℕ, [], true, length, option_and_then, slice_get, Option, IfOk, IfErr, IfSome, IfNone};
+ghost use Rattle.std.specs.Prelude.{◌≡◌, ◌≢◌, ◌≤◌, ◌<◌, ◌+◌, ◌*◌, ◌++◌, ◌∷◌, ℕ, [], true, length, option_and_then, slice_get, Option, IfOk, IfErr, IfSome, IfNone};
 ghost use Rattle.arrayvec.specs.ArrayVec.{array_vec_len};
 ghost use Rattle.evm_model.specs.Lists.{change};
 ghost use Rattle.evm_model.specs.Ranks.{first};
@@ -75,14 +75,57 @@ impl Turns {
         self.turns.clear();
     }
 
+    // As many tasks as there are turns have these.
+    fn fill(&mut self, turns: &[Turn])
+        requires { length turns.now ≤ TASK_LIMIT }
+        ensures turns { self.new.turns ≡ turns.now }
+        ensures count { self.new.count ≡ self.old.count }
+    {
+        self.clear();
+        for turn in turns {
+            self.push(*turn);
+        }
+    }
+
+    // Whether the turn of task t is this one.
+    fn has_turn(&self, t: u8, turn: &Turn) -> bool
+        ensures { result ≡ true → slice_get self.now.turns t ≡ Option.Some turn.now }
+    {
+        match self.turns.as_slice().get(t as usize) {
+            None => false,
+            Some(own) => own == turn,
+        }
+    }
+
+    // Task t has its turn of these.
+    fn follow(&mut self, turns: &[Turn], t: u8)
+        requires { length self.old.turns ≡ length turns.now }
+        ensures this { slice_get self.new.turns t ≡ slice_get turns.now t }
+        ensures others { (u : ℕ) → u ≢ t → slice_get self.new.turns u ≡ slice_get self.old.turns u }
+        ensures tasks { length self.new.turns ≡ length self.old.turns }
+        ensures count { self.new.count ≡ self.old.count }
+    {
+        let Some(turn) = turns.get(t as usize) else {
+            return;
+        };
+        if !self.has_turn(t, turn) {
+            self.set(t, *turn);
+        }
+    }
+
     /// The tasks have the turns of others. There are as many queues as before. Takes no memory.
+    // Of as many tasks as there were, only those move whose turns differ.
     pub fn copy_from(&mut self, other: &Turns)
         ensures turns { self.new.turns ≡ other.now.turns }
         ensures count { self.new.count ≡ self.old.count }
     {
-        self.clear();
-        for turn in other.turns.as_slice() {
-            self.push(*turn);
+        let turns = other.turns.as_slice();
+        if self.turns.len() != turns.len() {
+            self.fill(turns);
+            return;
+        }
+        for t in 0..turns.len() as u8 {
+            self.follow(turns, t);
         }
     }
 
