@@ -1,6 +1,5 @@
 pub mod Accesses
 pub mod Bursts
-pub mod Copies
 pub mod Idle
 pub mod Loads
 pub mod Quietly

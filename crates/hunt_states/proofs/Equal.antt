@@ -1,7 +1,6 @@
 -- Lists that have the same at each place.
-use Rattle.std.proofs.Common.{◌≡◌, ℕ, zero, suc, ◌+◌, ◌-◌, ◌<◌, ◌≤◌, ◌⊎◌, inl, inr, List, [], ◌∷◌, Option, Some, None, Bool, true, false, length, refl, sym, ap, ◌∙◌, arith}
-use Rattle.std.specs.Prelude.{slice_get, map, cond, take, drop}
-use Rattle.std.proofs.lemmas.List.{take_all}
+use Rattle.std.proofs.Common.{◌≡◌, ℕ, zero, suc, ◌+◌, ◌<◌, ◌≤◌, ◌⊎◌, inl, inr, List, [], ◌∷◌, Option, Some, None, length, refl, sym, ap, ◌∙◌, arith}
+use Rattle.std.specs.Prelude.{slice_get, map}
 use Rattle.evm_core.specs.Views.{counts_on_line, device_word, stages_in, word_in_device}
 use Rattle.evm_core.specs.declared.stages.Stages.{Stages}
 use Rattle.evm_dev.specs.declared.kind.Kind.{Kind}
@@ -11,8 +10,6 @@ use Rattle.evm_model.specs.Events.{bound_of}
 use Rattle.evm_model.specs.Pipes.{Pipe}
 use Rattle.evm_model.specs.Watch.{or_zero}
 use Rattle.evm_model.specs.declared.action.Action.{Action}
-use Rattle.evm_ram.specs.Ram.{bytes_at, is_inside}
-use Rattle.evm_ram.specs.declared.ram.TheConstants.{BASE}
 
 -- ---- any list
 pub same-by-get : {X : Type 0} (n : ℕ) (xs ys : List X) → length xs ≤ n → length ys ≤ n → ((i : ℕ) → i < n → slice_get xs i ≡ slice_get ys i) → xs ≡ ys
@@ -123,14 +120,3 @@ same-words a b k before none same j = elim (below-or-past j k) [
   | inl less ↦ before j less
   | inr past ↦ past-words a k j none past ∙ sym (past-words b k j (sym same ∙ none) past)
 ]
-
--- ---- RAM
-whole-by : (inside : Bool) (xs ys : List ℕ) → cond inside (Some xs) None ≡ Some ys → xs ≡ ys
-whole-by true xs ys h = cc
-whole-by false xs ys h = cc
-
-pub whole-ram : (ram bytes : List ℕ) (size : ℕ) → size ≡ length ram → bytes_at ram BASE size ≡ Some bytes → ram ≡ bytes
-unfolding bytes_at
-whole-ram ram bytes size fits h =
-    let there : take size (drop (BASE - BASE) ram) ≡ bytes = whole-by (is_inside ram BASE size) (take size (drop (BASE - BASE) ram)) bytes h in
-    sym (take_all size ram (omega arith)) ∙ there

@@ -1,5 +1,4 @@
 pub mod AlikeBoards
 pub mod Boards
 pub mod Equal
-mod SameBytes
 pub mod Words

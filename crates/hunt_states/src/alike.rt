@@ -140,7 +140,7 @@ pub fn are_alike_timeless<D: Device>(a: &Machine<D>, b: &Machine<D>) -> bool
     }
     a.rules();
     b.rules();
-    same_memories(a, b, a.boot_numbers().ram)
+    same_memories(a, b)
 }
 
 // Whether they keep the same notices.

@@ -3,7 +3,6 @@
 #![tactic(auto)]
 
 mod alike;
-mod bytes;
 mod hashing;
 mod lists;
 mod marks;

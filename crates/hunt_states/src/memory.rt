@@ -4,23 +4,9 @@ ghost use Rattle.std.specs.Prelude.{◌≡◌, ◌<◌, ℕ, true, length};
 ghost use Rattle.evm_core.specs.Views.{device_word};
 ghost use Rattle.hunt_states.specs.Same.{AreSameMemories};
 
-use crate::bytes::same_bytes;
 use evm_core::Machine;
 use evm_dev::Device;
 use evm_model::CONSOLE_LIMIT;
-use evm_ram::BASE;
-
-// Whether their RAM has the same bytes, of a size.
-fn same_ram<D: Device>(a: &Machine<D>, b: &Machine<D>, size: u64) -> bool
-    requires a { size ≡ length a.now.board.memory.ram }
-    requires b { size ≡ length b.now.board.memory.ram }
-    ensures { result ≡ true → a.now.board.memory.ram ≡ b.now.board.memory.ram }
-{
-    match (a.bytes(BASE, size), b.bytes(BASE, size)) {
-        (Some(a), Some(b)) => same_bytes(a, b),
-        _ => false,
-    }
-}
 
 // Whether a device of each has the same words.
 fn same_words<D: Device>(a: &Machine<D>, b: &Machine<D>, i: u8) -> bool
@@ -55,13 +41,11 @@ fn same_devices<D: Device>(a: &Machine<D>, b: &Machine<D>) -> bool
 }
 
 /// Whether memory has the same bytes, and as many devices with the same words.
-pub(crate) fn same_memories<D: Device>(a: &Machine<D>, b: &Machine<D>, size: u64) -> bool
-    requires a { size ≡ length a.now.board.memory.ram }
-    requires b { size ≡ length b.now.board.memory.ram }
+pub(crate) fn same_memories<D: Device>(a: &Machine<D>, b: &Machine<D>) -> bool
     ensures { result ≡ true → AreSameMemories a.now.board.memory b.now.board.memory }
 {
     if !same_devices(a, b) {
         return false;
     }
-    same_ram(a, b, size)
+    a.has_same_ram(b)
 }

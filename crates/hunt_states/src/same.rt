@@ -52,5 +52,5 @@ pub fn have_same_boards<D: Device>(a: &Machine<D>, b: &Machine<D>) -> bool
     }
     a.rules();
     b.rules();
-    same_memories(a, b, boot.ram)
+    same_memories(a, b)
 }
