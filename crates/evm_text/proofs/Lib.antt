@@ -10,3 +10,4 @@ pub mod Parts
 pub mod Rows
 pub mod Cuts
 pub mod Appending
+pub mod WordDigits

@@ -3,7 +3,7 @@ use Rattle.std.proofs.Common.{◌≡◌, ℕ, zero, suc, ◌+◌, ◌-◌, ◌*�
 use Rattle.std.proofs.Math.Nat.{pow-suc, pow-zero}
 use Rattle.std.proofs.lemmas.List.{append-nil, take_more}
 use Rattle.std.proofs.lemmas.Bool.{lt-ltb, le-ltb}
-use Rattle.evm_text.specs.Written.{character, numeral, hexadecimal_padded, pairs}
+use Rattle.evm_text.specs.Written.{character, numeral, pairs}
 
 pub numeral_one : (base divisions n : ℕ) → n < base → numeral base divisions n ≡ character n ∷ []
 unfolding numeral
@@ -25,29 +25,10 @@ numeral_more base (suc divisions) n some large =
     let less : suc divisions - 1 ≡ divisions = omega arith in
     rw (e, less) refl
 
-padded_none : (count n : ℕ) → count ≡ 0 → hexadecimal_padded count n ≡ []
-unfolding hexadecimal_padded
-padded_none zero n none = refl
-padded_none (suc count) n none = absurd (omega arith)
-
-padded_more : (count n : ℕ) → 0 < count → hexadecimal_padded count n ≡ hexadecimal_padded (count - 1) (n / 16) ++ character (n % 16) ∷ []
-unfolding hexadecimal_padded
-padded_more zero n some = absurd (omega arith)
-padded_more (suc count) n some =
-    let less : suc count - 1 ≡ count = omega arith in
-    rw less refl
-
 -- one character behind what stands already
 pub numeral_then : (old : List ℕ) (base divisions n : ℕ) → 0 < divisions → base ≤ n → (old ++ numeral base (divisions - 1) (n / base)) ++ character (n % base) ∷ [] ≡ old ++ numeral base divisions n
 numeral_then old base divisions n some large =
     append_assoc old (numeral base (divisions - 1) (n / base)) (character (n % base) ∷ []) ∙ ap (λ (text : List ℕ). old ++ text) (sym (numeral_more base divisions n some large))
-
-pub padded_then : (old : List ℕ) (count n : ℕ) → 0 < count → (old ++ hexadecimal_padded (count - 1) (n / 16)) ++ character (n % 16) ∷ [] ≡ old ++ hexadecimal_padded count n
-padded_then old count n some =
-    append_assoc old (hexadecimal_padded (count - 1) (n / 16)) (character (n % 16) ∷ []) ∙ ap (λ (text : List ℕ). old ++ text) (sym (padded_more count n some))
-
-pub padded_end : (old : List ℕ) (count n : ℕ) → count ≤ 0 → old ≡ old ++ hexadecimal_padded count n
-padded_end old count n none = let e = padded_none count n (omega arith) in rw e (sym (append-nil old))
 
 pairs-append : (xs ys : List ℕ) → pairs (xs ++ ys) ≡ pairs xs ++ pairs ys
 unfolding pairs

@@ -2,7 +2,7 @@ ghost use Rattle.std.specs.Prelude.{◌≡◌, ◌+◌, ◌^◌, ◌<◌, ◌≤
 ghost use Rattle.std.specs.Char.{encode_utf8};
 ghost use Rattle.std.specs.String.{string_bytes};
 ghost use Rattle.evm_text.specs.Appending.{Appends};
-ghost use Rattle.evm_text.specs.Written.{character, numeral, decimal, hexadecimal, hexadecimal_padded, pairs};
+ghost use Rattle.evm_text.specs.Written.{character, numeral, decimal, hexadecimal, pairs};
 
 use arrayvec::ArrayString;
 use evm_room::{Refused, grow_text, push_text};
@@ -36,17 +36,6 @@ fn put_numeral(text: &mut ArrayString<DIGITS>, base: u64, divisions: u8, n: u64)
     } else {
         put_numeral(text, base, divisions - 1, n / base);
         text.push(character((n % base) as u8));
-    }
-}
-
-fn put_padded(text: &mut ArrayString<DIGITS>, count: u8, n: u64)
-    requires { length text.old.bytes + count ≤ 20 }
-    ensures value { text.new.bytes ≡ text.old.bytes ++ hexadecimal_padded count n }
-    ensures len { length text.new.bytes ≡ length text.old.bytes + count }
-{
-    if count > 0 {
-        put_padded(text, count - 1, n / 16);
-        text.push(character((n % 16) as u8));
     }
 }
 
@@ -96,18 +85,6 @@ pub fn push_hexadecimal(out: &mut String, n: u64) -> Result<(), Refused>
 {
     let mut text = ArrayString::new();
     put_numeral(&mut text, 16, 15, n);
-    push_text(out, text.as_str())
-}
-
-/// Appends the last `count` hexadecimal digits of a number (at most 16), with zeros in
-/// front where the number is shorter.
-pub fn push_hexadecimal_padded(out: &mut String, count: u8, n: u64) -> Result<(), Refused>
-    requires { count ≤ 16 }
-    ensures appends { Appends (hexadecimal_padded count n) out.old out.new result }
-    ensures err { OnErr result (string_bytes out.new ≡ string_bytes out.old) }
-{
-    let mut text = ArrayString::new();
-    put_padded(&mut text, count, n);
     push_text(out, text.as_str())
 }
 
