@@ -8,11 +8,11 @@ use crate::telling::Telling;
 use crate::words::{Options, Search, WordFault, options_of};
 use clap::ArgMatches;
 use evm_host::{FAILED, Message, System, USAGE, World, image_at, memory_refused, names_at, report};
-use hunt_search::{
-    BeginFault, Boot, HuntStop, Plan, SearchSpan, SpaceCounts, Switching, Target, Way, first_choices,
-    first_length, hunt, hunt_all,
-};
 use evm_streams::Numeral;
+use hunt_search::{
+    BeginFault, Boot, HuntStop, Plan, SearchSpan, SpaceCounts, Switching, Target, Way,
+    first_choices, first_length, hunt, hunt_all,
+};
 use hunt_space::{SpaceBounds, TickBound, hunt_space};
 use std::alloc::Global;
 use text_symbols::{Names, Symbols};
@@ -183,10 +183,7 @@ fn hunt_seeds<S: System>(
 }
 
 // Looks at the schedules of the options.
-fn hunt_by<S: System>(
-    job: &HuntJob<'_>,
-    telling: &mut Telling<'_, S>,
-) -> Result<Hunted, HuntStop> {
+fn hunt_by<S: System>(job: &HuntJob<'_>, telling: &mut Telling<'_, S>) -> Result<Hunted, HuntStop> {
     match job.options.search {
         Search::All => hunt_everything(job, telling),
         Search::Switches(switches) => hunt_switches(job, switches, telling),

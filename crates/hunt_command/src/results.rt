@@ -145,15 +145,15 @@ fn tell_gaps<S: System>(
     reached: &ReachedText,
     world: &mut World<S>,
 ) -> Result<u8, NoMemory> {
-    let mut from = 0;
+    let mut last = None;
     let mut status = 0;
     for _ in 0..reached.count() {
-        let Some(gap) = reached.gap(from) else {
+        let Some(gap) = reached.gap_after(last) else {
             return Ok(status);
         };
-        let text = unreached_text(job.target.alloc, gap.address, gap.bytes, job.names)?;
+        let text = unreached_text(job.target.alloc, gap.first, gap.last, job.names)?;
         status = first_failed(status, show(PROGRAM, text.as_str(), world));
-        from = gap.address.saturating_add(gap.bytes);
+        last = Some(gap);
     }
     Ok(status)
 }

@@ -61,16 +61,14 @@ fn push_clock(out: &mut String, address: u64, names: &Names) -> Result<(), Refus
     push_text(out, "\n")
 }
 
-// Appends where text begins that no schedule reaches, and how many bytes it has.
-fn push_unreached(
-    out: &mut String,
-    address: u64,
-    bytes: u64,
-    names: &Names,
-) -> Result<(), Refused> {
+// Appends the first and the last of instructions that no schedule reaches.
+fn push_unreached(out: &mut String, first: u64, last: u64, names: &Names) -> Result<(), Refused> {
     push_text(out, "unreached ")?;
-    push_place(out, address, names)?;
-    push_number(out, " bytes ", bytes)?;
+    push_place(out, first, names)?;
+    if first != last {
+        push_text(out, " to ")?;
+        push_place(out, last, names)?;
+    }
     push_text(out, "\n")
 }
 
@@ -210,19 +208,19 @@ pub fn clock_text(alloc: Global, address: u64, names: &Names) -> Result<String, 
     whole(pushed, text)
 }
 
-/// The line of text that no schedule reaches: `unreached PLACE bytes N`.
+/// The line of instructions that no schedule reaches: `unreached PLACE to PLACE`, the first and the last; of one `unreached PLACE`.
 ///
 /// # Errors
 ///
 /// Memory was refused.
 pub fn unreached_text(
     alloc: Global,
-    address: u64,
-    bytes: u64,
+    first: u64,
+    last: u64,
     names: &Names,
 ) -> Result<String, NoMemory> {
     let mut text = String::new(alloc);
-    let pushed = push_unreached(&mut text, address, bytes, names);
+    let pushed = push_unreached(&mut text, first, last, names);
     whole(pushed, text)
 }
 

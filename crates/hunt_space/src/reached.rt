@@ -9,13 +9,13 @@ use std::alloc::Global;
 /// How many bytes an instruction has.
 const WORD: u64 = 4;
 
-/// Text that lies together, of which no instruction was reached.
+/// Instructions in a row that were not reached.
 #[derive(Clone, Copy, Debug, PartialEq, Eq)]
 pub struct Gap {
-    /// Where it begins.
-    pub address: u64,
-    /// How many bytes it has.
-    pub bytes: u64,
+    /// The address of the first.
+    pub first: u64,
+    /// The address of the last.
+    pub last: u64,
 }
 
 /// The instructions of a text, and which of them a processor that may step has come to.
@@ -50,8 +50,8 @@ impl ReachedText {
 
     // An instruction was reached.
     fn mark(&mut self, pc: u64) {
-        let place = pc.wrapping_sub(self.low) / WORD;
-        if let Some(reached) = self.reached.get_mut(place as usize) {
+        let place = self.place(pc);
+        if let Some(reached) = self.reached.get_mut(place) {
             *reached = true;
         }
     }
@@ -84,15 +84,28 @@ impl ReachedText {
         count
     }
 
-    /// The first gap of the text from an address on.
-    pub fn gap(&self, from: u64) -> Option<Gap> {
-        let from = (from.saturating_sub(self.low) / WORD) as usize;
+    // The address of an instruction.
+    fn address(&self, place: usize) -> u64 {
+        self.low.saturating_add((place as u64).saturating_mul(WORD))
+    }
+
+    // Where an instruction stands among those of the text.
+    fn place(&self, address: u64) -> usize {
+        (address.wrapping_sub(self.low) / WORD) as usize
+    }
+
+    /// The next gap of the text, or the first.
+    pub fn gap_after(&self, gap: Option<Gap>) -> Option<Gap> {
+        let from = match gap {
+            None => 0,
+            Some(gap) => self.place(gap.last).saturating_add(1),
+        };
         let place = from.saturating_add(self.alike_from(from, true));
         match self.alike_from(place, false) {
             0 => None,
             count => Some(Gap {
-                address: self.low.saturating_add((place as u64).saturating_mul(WORD)),
-                bytes: (count as u64).saturating_mul(WORD),
+                first: self.address(place),
+                last: self.address(place.saturating_add(count - 1)),
             }),
         }
     }
