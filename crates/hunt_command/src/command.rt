@@ -27,7 +27,7 @@ const RAM_END: &str = "ram_end";
 const RAM: (u64, u64) = (0x8000_0000, 65_536);
 
 /// How many bytes a state that is visited takes, about.
-const STATE_BYTES: u64 = 360;
+const STATE_BYTES: u64 = 400;
 
 // Says why there is nothing to be hunted.
 fn blame<S: System>(fault: WordFault, world: &mut World<S>) -> u8 {
