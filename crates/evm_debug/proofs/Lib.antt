@@ -1,5 +1,6 @@
 pub mod Lines
 pub mod RegisterLines
+pub mod RegisterText
 pub mod Below
 pub mod DeviceWords
 pub mod Pairs

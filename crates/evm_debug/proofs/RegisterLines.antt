@@ -1,5 +1,4 @@
 use Rattle.std.proofs.Common.{◌≡◌, ℕ, suc, List, [], ◌++◌, ◌+◌, ◌-◌, ◌*◌, ◌<◌, ◌≤◌, length, refl, ap, ◌∙◌, arith}
-use Rattle.std.proofs.lemmas.List.{length-append}
 use Rattle.evm_debug.specs.Views.{four_registers, register_lines}
 
 -- no line is left
@@ -14,9 +13,3 @@ register_lines-more i end regs h =
     let e : end - i ≡ suc (end - (i + 1)) = omega arith in
     let four : (i + 1) * 4 ≡ i * 4 + 4 = omega arith in
     rw (e, four) refl
-
--- it is no longer than the lines from it on
-pub first_line : (i end : ℕ) (regs : List ℕ) → i < end → length (four_registers (i * 4) regs) ≤ length (register_lines (i * 4) (end - i) regs)
-first_line i end regs h =
-    let size = ap length (register_lines-more i end regs h) ∙ length-append (four_registers (i * 4) regs) (register_lines ((i + 1) * 4) (end - (i + 1)) regs) in
-    omega (arith, size)

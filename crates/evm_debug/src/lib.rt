@@ -10,6 +10,7 @@ mod look;
 mod piece;
 mod reading;
 mod refusable;
+mod registers;
 mod render;
 mod views;
 

@@ -3,7 +3,7 @@
 ghost use Rattle.std.specs.Prelude.{◌≡◌, ◌++◌};
 ghost use Rattle.evm_journal.specs.evm_text.Appending.{Appends};
 ghost use Rattle.evm_journal.specs.evm_text.Written.{decimal};
-ghost use Rattle.evm_debug.specs.Views.{state_codes, wait_text, class_text, number_or_none, two_digits};
+ghost use Rattle.evm_debug.specs.Views.{state_codes, wait_text, class_text, number_or_none};
 ghost use Rattle.evm_debug.specs.Pieces.{piece_text, pieces_text};
 
 use evm_journal::{push_decimal, push_hexadecimal_padded};
@@ -23,7 +23,6 @@ pub(crate) enum Piece<'a> {
     Bit(bool),
     /// A task's number, or `none`.
     Number(Option<u8>),
-    TwoDigits(u8),
     State(TaskState),
     Class(Class),
     /// The stage of a current task in this state.
@@ -86,14 +85,6 @@ fn push_number(out: &mut String, task: Option<u8>) -> Result<(), Refused>
     }
 }
 
-#[tactic(auto, using(crate::proofs::Below::lengths))]
-fn push_two_digits(out: &mut String, n: u8) -> Result<(), Refused>
-    ensures { Appends (two_digits n) out.old out.new result }
-{
-    push_decimal(out, u64::from(n / 10))?;
-    push_decimal(out, u64::from(n % 10))
-}
-
 fn push_piece(out: &mut String, piece: &Piece<'_>) -> Result<(), Refused>
     ensures { Appends (piece_text piece.now) out.old out.new result }
 {
@@ -104,7 +95,6 @@ fn push_piece(out: &mut String, piece: &Piece<'_>) -> Result<(), Refused>
         Piece::Lines(lines) => push_hexadecimal_padded(out, LINES / 4, lines.word()),
         Piece::Bit(bit) => push_text(out, if *bit { "1" } else { "0" }),
         Piece::Number(task) => push_number(out, *task),
-        Piece::TwoDigits(n) => push_two_digits(out, *n),
         Piece::State(state) => push_state(out, *state),
         Piece::Class(class) => push_text(out, class_name(*class)),
         Piece::Stage(state) => push_text(

@@ -1,62 +1,14 @@
-ghost use Rattle.std.specs.Prelude.{◌≡◌, ◌<◌, ◌+◌, Option, slice_get};
+ghost use Rattle.std.specs.Prelude.{Option, slice_get};
 ghost use Rattle.evm_journal.specs.evm_text.Appending.{Appends};
-ghost use Rattle.evm_debug.specs.Views.{four_registers, register_rows, current_text, regs_text, task_text, tasks_text, owner_text, owners_text, rank_text, stages_text, counts_text};
-ghost use Rattle.evm_exec.specs.Registers.{register_of};
+ghost use Rattle.evm_debug.specs.Views.{current_text, regs_text, task_text, tasks_text, owner_text, owners_text, rank_text, stages_text, counts_text};
 
 use crate::piece::{Piece, push_pieces};
+use crate::registers::push_registers;
 use evm_dev::Device;
-use evm_exec::{Hart, REGISTERS};
-use evm_isa::Register;
+use evm_exec::Hart;
 use evm_journal::{Machine, Stages};
 use evm_model::{Counts, Mutex, Processor, Task};
 use evm_room::{Refused, push_text};
-
-// A register by its number.
-fn value(hart: &Hart, r: u8) -> u64
-    requires { r < REGISTERS }
-    ensures { result ≡ register_of hart.now.regs r }
-{
-    match Register::new(r) {
-        Some(register) => hart.register(register),
-        None => 0,
-    }
-}
-
-fn push_register_line(out: &mut String, r: u8, hart: &Hart) -> Result<(), Refused>
-    requires { r + 3 < REGISTERS }
-    ensures { Appends (four_registers r hart.now.regs) out.old out.new result }
-{
-    let line = [
-        Piece::Text("x"),
-        Piece::TwoDigits(r),
-        Piece::Text(" "),
-        Piece::Word(value(hart, r)),
-        Piece::Text(" x"),
-        Piece::TwoDigits(r + 1),
-        Piece::Text(" "),
-        Piece::Word(value(hart, r + 1)),
-        Piece::Text(" x"),
-        Piece::TwoDigits(r + 2),
-        Piece::Text(" "),
-        Piece::Word(value(hart, r + 2)),
-        Piece::Text(" x"),
-        Piece::TwoDigits(r + 3),
-        Piece::Text(" "),
-        Piece::Word(value(hart, r + 3)),
-        Piece::Text("\n"),
-    ];
-    push_pieces(out, &line)
-}
-
-#[tactic(auto, using(crate::proofs::RegisterLines::first_line))]
-fn push_registers(out: &mut String, hart: &Hart) -> Result<(), Refused>
-    ensures { Appends (register_rows hart.now.regs) out.old out.new result }
-{
-    for line in 0..REGISTERS / 4 {
-        push_register_line(out, line * 4, hart)?;
-    }
-    Ok(())
-}
 
 #[tactic(auto, using(crate::proofs::Below::lengths))]
 fn push_current(out: &mut String, t: u8, task: &Task, hart: &Hart) -> Result<(), Refused>
