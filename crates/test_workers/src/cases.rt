@@ -75,6 +75,12 @@ const LARGE: Plan = Plan {
     program: Program::Loop,
 };
 
+const ALONE: Plan = Plan {
+    cpus: 1,
+    capacity: 16_384,
+    program: Program::Loop,
+};
+
 const RING: Plan = Plan {
     cpus: 2,
     capacity: 16_384,
@@ -99,7 +105,7 @@ const SINGLE: Plan = Plan {
     program: Program::Loop,
 };
 
-pub(crate) const RING_CASES: [RingCase; 6] = [
+pub(crate) const RING_CASES: [RingCase; 7] = [
     RingCase {
         name: "ten turns of two workers",
         plan: SMALL,
@@ -117,6 +123,19 @@ pub(crate) const RING_CASES: [RingCase; 6] = [
         rings: NO_RINGS,
         shown: 2,
         has_sums: true,
+    },
+    RingCase {
+        name: "a thousand rings of a line of the only processor",
+        plan: ALONE,
+        turns: 100,
+        held: 99,
+        rings: Rings {
+            first: 9,
+            end: 10,
+            times: 1_000,
+        },
+        shown: 0,
+        has_sums: false,
     },
     RingCase {
         name: "a thousand rings of a line",
@@ -148,7 +167,8 @@ pub(crate) const RING_CASES: [RingCase; 6] = [
         name: "a mailbox over a ring",
         plan: RING,
         turns: 100,
-        held: 0,
+        // task 0 has spawned the other by then
+        held: 50,
         rings: NO_RINGS,
         shown: 0,
         has_sums: true,
@@ -157,7 +177,8 @@ pub(crate) const RING_CASES: [RingCase; 6] = [
         name: "a mailbox over a list",
         plan: LIST,
         turns: 100,
-        held: 0,
+        // task 0 has spawned the other by then
+        held: 50,
         rings: NO_RINGS,
         shown: 0,
         has_sums: true,

@@ -28,7 +28,7 @@ pub(crate) struct Seen {
     /// The journal has as many events and Bells as the ports have made, and of lines that were rung fresh each was taken or is left, and
     /// is a Bell if it was taken.
     pub(crate) counted: bool,
-    /// The receipts of the first two ports are true.
+    /// The receipts of the first two ports, or of the only one, are true.
     pub(crate) checked: bool,
     /// What breaks where the first port is checked twice.
     pub(crate) twice: Result<(), Mismatch>,
@@ -173,16 +173,29 @@ fn have_each_bell<S: Ledger, B: Ledger, T: Ledger>(
     checked_receipts_have_each_bell(machine, &[first, second])
 }
 
+// Whether the receipts of the only port are true, by both checks.
+fn is_one_checked<S: Ledger, B: Ledger, T: Ledger>(
+    machine: &Machine<AnyDevice>,
+    port: &Port<S, B, T>,
+) -> bool {
+    check_receipts(machine, &[port]).is_ok() && checked_receipts_have_each_bell(machine, &[port])
+}
+
 // Whether the receipts of the first two ports are true, by both checks. The end of the sharing has checked all.
 fn is_checked<S: Ledger, B: Ledger, T: Ledger>(
     machine: &Machine<AnyDevice>,
     first: &Port<S, B, T>,
-    second: &Port<S, B, T>,
+    second: Option<&Port<S, B, T>>,
 ) -> bool {
-    check_two(machine, first, second).is_ok() && have_each_bell(machine, first, second)
+    match second {
+        None => is_one_checked(machine, first),
+        Some(second) => {
+            check_two(machine, first, second).is_ok() && have_each_bell(machine, first, second)
+        }
+    }
 }
 
-// All but the replay. None if a port is missing.
+// All but the replay. None if there is no port.
 fn look_at<S: Ledger, B: Ledger, T: Ledger>(
     workers: u8,
     gate: &Gates,
@@ -190,20 +203,18 @@ fn look_at<S: Ledger, B: Ledger, T: Ledger>(
     machine: &Machine<AnyDevice>,
     ports: &[Port<S, B, T>],
 ) -> Option<Seen> {
-    let (Some(first), Some(second)) = (ports.get(0), ports.get(1)) else {
-        return None;
-    };
+    let first = ports.get(0)?;
     Some(Seen {
-        rows: [row(Some(first)), row(Some(second)), row(ports.get(2))],
+        rows: [row(Some(first)), row(ports.get(1)), row(ports.get(2))],
         called: was_called(ports, workers, gate),
         counted: are_counted(totals, machine),
-        checked: is_checked(machine, first, second),
+        checked: is_checked(machine, first, ports.get(1)),
         twice: check_two(machine, first, first),
         replayed: false,
     })
 }
 
-/// Looks at all. None if a port is missing.
+/// Looks at all. None if there is no port.
 pub(crate) fn look<S: Ledger, B: Ledger, T: Ledger>(
     alloc: Global,
     plan: Plan,
