@@ -74,14 +74,13 @@ impl ReachedText {
 
     // How many instructions from one on were all reached, or none of them.
     fn alike_from(&self, from: usize, wanted: bool) -> usize {
-        let mut count = 0;
-        for reached in self.reached.iter().skip(from) {
-            if *reached != wanted {
-                return count;
+        for count in 0..self.reached.len() {
+            match self.reached.get(from.saturating_add(count)) {
+                Some(reached) if *reached == wanted => {}
+                _ => return count,
             }
-            count += 1;
         }
-        count
+        self.reached.len()
     }
 
     // The address of an instruction.

@@ -27,19 +27,19 @@ paths-preserved g c =
     let paths' = c.look.new.search.frontier.paths.items in
     let turns = c.in-Ok-Some.path.turns.items in
     let cpu = c.in-Ok-Some.path.cpu in record {
-      found = c.in-Ok.ensures.found;
+      found = c.in-Ok-true.ensures.found;
       begins = all.begins;
       fresh = all.fresh;
-      stands = c.in-Ok.ensures.stands;
+      stands = c.in-Ok-true.ensures.stands c.in-Ok-true.field-0-test;
       root = (all.root.0, c.look.ensures.keeps_paths 0 all.root.0 all.root.1, all.root.2);
-      boots = inr c.in-Ok.ensures.boots;
+      boots = inr c.in-Ok-true.ensures.boots;
       within = number-within paths paths' c.paths.number turns cpu c.look.ensures.keeps_paths here;
       guarded = all.guarded;
       searched = λ empty uncut first begins.
-          let gone = c.in-Ok.ensures.goes empty uncut in
+          let gone = c.in-Ok-true.ensures.goes empty uncut in
           searched-more c.args.scope.now.text.low c.args.scope.now.text.high c.args.target.now.wanted.now c.args.scope.now.clock first paths paths' c.paths.search.visited.places.items c.look.new.search.visited.places.items c.paths.number turns cpu
           c.look.ensures.keeps_paths c.look.ensures.keeps_places all.within (path-still paths paths' c.paths.number turns cpu c.look.ensures.keeps_paths here) (gone.explored first begins) (gone.gone first begins)
-          (all.searched (c.in-Ok.ensures.rows empty) (c.look.ensures.cut uncut) first begins);
+          (all.searched (c.in-Ok-true.ensures.rows empty) (c.look.ensures.cut uncut) first begins);
     }
 
 pub returns-then-not-goes_on-clause-searched : goal.returns-then-not-goes_on-clause-searched
