@@ -225,8 +225,10 @@ fn answer_order<I: Interrupts>(
         | Command::Remove(_, _)
         | Command::Watch(_, _, _)
         | Command::Unwatch(_, _, _) => answer_points(session, command, &mut reply.payload),
-        Command::SelectThread(_) | Command::Choose(_) | Command::NoAcknowledgements | Command::Detach =>
-            answer_choice(session, command, &mut reply.payload),
+        Command::SelectThread(_)
+        | Command::Choose(_)
+        | Command::NoAcknowledgements
+        | Command::Detach => answer_choice(session, command, &mut reply.payload),
         Command::Kill => {
             session.over = !session.extended;
             Ok(())
