@@ -19,14 +19,14 @@ use std::thread::Threads;
 /// The largest journal.
 pub(crate) const CAPACITY: u32 = 1_048_576;
 
-/// The line that commands raise.
-const LINE: u8 = 8;
+/// The line that commands raise, and that is rung.
+pub(crate) const LINE: u8 = 8;
 
 /// `j .`: jal x0, 0.
 const LOOP: [u8; 4] = [0x6f, 0, 0, 0];
 
 // One processor in an endless loop.
-fn looping(alloc: Global) -> Option<Machine<Pins>>
+pub(crate) fn looping(alloc: Global) -> Option<Machine<Pins>>
     ensures { IfSome result (λ m. IsReplayOf m m) }
 {
     let file = write_bytes(alloc, &LOOP).ok()?;

@@ -2,14 +2,15 @@
 //! - a journal: its events are counted;
 //! - the lines of a script, the first of them its boot line: they are applied to a machine, without a script's service. Lines behind
 //!   one that says `times COUNT` are applied COUNT times;
-//! - a line `ring THREADS COUNT`, `take THREADS COUNT`, `commit THREADS COUNT`, `step COUNT`, `hold COUNT` or `events COUNT`: this is
-//!   done COUNT times in all; or `turns WORKERS COUNT`: each worker makes COUNT turns.
+//! - a line `ring THREADS COUNT`, `take THREADS COUNT`, `commit THREADS COUNT`, `step COUNT`, `hold COUNT`, `events COUNT` or
+//!   `deliver COUNT`: this is done COUNT times in all; or `turns WORKERS COUNT`: each worker makes COUNT turns.
 //!
 //! If standard input begins with a line `==`, such a line stands before each of several works.
 #![tactic(auto)]
 
 mod bells;
 mod commits;
+mod delivers;
 mod events;
 mod journal;
 mod words;
@@ -17,6 +18,7 @@ mod workers;
 
 use crate::bells::{ring, take};
 use crate::commits::{commit, events, step};
+use crate::delivers::deliver;
 use crate::events::apply_script;
 use crate::journal::print_count;
 use crate::words::{Work, read_work};
@@ -64,6 +66,7 @@ fn print_done<R: Threads + Wait + Sync + Print + AllocGlobal>(
         Some(Work::Step(count)) => step(rt.alloc(), count),
         Some(Work::Hold(count)) => hold(rt, rt.alloc(), count),
         Some(Work::Events(count)) => events(rt, rt.alloc(), count),
+        Some(Work::Deliver(count)) => deliver(rt, rt.alloc(), count),
         Some(Work::Turns(workers, count)) => {
             let Some(steps) = turns(rt, rt.alloc(), workers, count) else {
                 return println!(rt; "not done");

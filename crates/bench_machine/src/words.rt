@@ -10,9 +10,10 @@ pub enum Work {
     Turns(u8, u32),
     Hold(u32),
     Events(u32),
+    Deliver(u32),
 }
 
-/// A line of a kind of work, a number of threads, and a count; of `step`, `hold` and `events` without threads.
+/// A line of a kind of work, a number of threads, and a count; of `step`, `hold`, `events` and `deliver` without threads.
 pub fn read_work(text: &str) -> Option<Work> {
     let (kind, rest) = text.trim_end().split_once(' ')?;
     if kind == "step" {
@@ -23,6 +24,9 @@ pub fn read_work(text: &str) -> Option<Work> {
     }
     if kind == "events" {
         return Some(Work::Events(rest.parse().ok()?));
+    }
+    if kind == "deliver" {
+        return Some(Work::Deliver(rest.parse().ok()?));
     }
     let (threads, count) = rest.split_once(' ')?;
     let threads = threads.parse().ok()?;

@@ -1,0 +1,14 @@
+use Rattle.evm_shared.specs.EventCounts.{kind_counts}
+use Rattle.bench_machine.proofs.delivers.deliver.Given as goal
+
+abbrev pub ghosts-deliver_by-O-Origin : goal.ghosts-deliver_by-O-Origin
+ghosts-deliver_by-O-Origin g a = record { start = a.machine; base = kind_counts a.machine.journal }
+
+abbrev pub ghosts-deliver_by-S-Ledger : goal.ghosts-deliver_by-S-Ledger
+ghosts-deliver_by-S-Ledger g a = record { name = a.blanks.steps.name; parts = a.blanks.steps.parts }
+
+abbrev pub ghosts-deliver_by-B-Ledger : goal.ghosts-deliver_by-B-Ledger
+ghosts-deliver_by-B-Ledger g a = record { name = a.blanks.bells.name; parts = a.blanks.bells.parts }
+
+abbrev pub ghosts-deliver_by-T-Ledger : goal.ghosts-deliver_by-T-Ledger
+ghosts-deliver_by-T-Ledger g a = record { name = a.blanks.others.name; parts = a.blanks.others.parts }
