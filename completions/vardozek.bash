@@ -28,6 +28,7 @@ _vardozek() {
         trace:--seed) COMPREPLY=(); return ;;
         hunt:--pct) COMPREPLY=(); return ;;
         hunt:--ticks) COMPREPLY=(); return ;;
+        hunt:--raises) COMPREPLY=(); return ;;
         hunt:--states) COMPREPLY=(); return ;;
         hunt:--cpus) COMPREPLY=(); return ;;
         hunt:--ram) COMPREPLY=(); return ;;
@@ -48,7 +49,7 @@ _vardozek() {
         trace:-*) COMPREPLY=($(compgen -W "--clock --map --run --cpus --ram --watchdog --ticks --lines --seed --until --script --help" -- "$word")) ;;
         gdb:-*) COMPREPLY=($(compgen -W "--map --help" -- "$word")) ;;
         sh:-*) COMPREPLY=($(compgen -W "--script --journal --junit --map --help" -- "$word")) ;;
-        hunt:-*) COMPREPLY=($(compgen -W "--random --pct --all --ticks --states --cpus --ram --watchdog --events --runs --time --seeds --lines --fail --errno --order --out --junit --map --held --inversion --stuck --help" -- "$word")) ;;
+        hunt:-*) COMPREPLY=($(compgen -W "--random --pct --all --ticks --raises --states --cpus --ram --watchdog --events --runs --time --seeds --lines --fail --errno --order --out --junit --map --held --inversion --stuck --help" -- "$word")) ;;
         view:*) COMPREPLY=($(compgen -W "diff" -- "$word") $(compgen -f -- "$word")) ;;
         *) COMPREPLY=($(compgen -f -- "$word")) ;;
     esac

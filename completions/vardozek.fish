@@ -55,6 +55,7 @@ complete -c vardozek -n '__fish_seen_subcommand_from hunt' -l random -d 'Chooses
 complete -c vardozek -n '__fish_seen_subcommand_from hunt' -l pct -x -d 'Chooses by priorities with D change points'
 complete -c vardozek -n '__fish_seen_subcommand_from hunt' -l all -d 'Looks at every schedule with at most B switches; without B at every schedule'
 complete -c vardozek -n '__fish_seen_subcommand_from hunt' -l ticks -x -d 'Ticks of a schedule at most, with --all without B [default: any number]'
+complete -c vardozek -n '__fish_seen_subcommand_from hunt' -l raises -x -d 'Raises of a schedule at most, with --all without B [default: any number]'
 complete -c vardozek -n '__fish_seen_subcommand_from hunt' -l states -x -d 'States at most, with --all without B [default: 1000000]'
 complete -c vardozek -n '__fish_seen_subcommand_from hunt' -l cpus -x -d 'Processors [default: 2]'
 complete -c vardozek -n '__fish_seen_subcommand_from hunt' -l ram -x -d 'Bytes of RAM [default: what the image is linked for, or 65536]'

@@ -13,7 +13,7 @@ use hunt_search::{
     BeginFault, Boot, HuntStop, Plan, SearchSpan, SpaceCounts, Switching, Target, Way,
     first_choices, first_length, hunt, hunt_all,
 };
-use hunt_space::{SpaceBounds, TickBound, hunt_space};
+use hunt_space::{Bound, EventBounds, SpaceBounds, hunt_space};
 use std::alloc::Global;
 use text_symbols::{Names, Symbols};
 
@@ -38,7 +38,7 @@ fn blame<S: System>(fault: WordFault, world: &mut World<S>) -> u8 {
         WordFault::Counted => {
             "--all without B looks at states alone: without lost, stuck, --held, --inversion and --order"
         }
-        WordFault::Bounds => "--ticks and --states: wanted beside --all without B",
+        WordFault::Bounds => "--ticks, --raises and --states: wanted beside --all without B",
     };
     report(PROGRAM, Message::Plain(words), &mut world.errors);
     USAGE
@@ -112,24 +112,32 @@ fn tell_memory<S: System>(states: u32, world: &mut World<S>) {
     report(PROGRAM, message, &mut world.errors);
 }
 
+// How many events of a kind a schedule may have.
+fn bound_of(most: Option<u64>) -> Bound {
+    match most {
+        Some(most) => Bound::AtMost(most),
+        None => Bound::Free,
+    }
+}
+
 // Looks at every schedule.
 fn hunt_everything<S: System>(
     job: &HuntJob<'_>,
     telling: &mut Telling<'_, S>,
 ) -> Result<Hunted, HuntStop> {
     let options = job.options;
-    let clock = match options.ticks {
-        Some(most) => TickBound::AtMost(most),
-        None => TickBound::Free,
-    };
     let bounds = SpaceBounds {
-        clock,
+        events: EventBounds {
+            ticks: bound_of(options.ticks),
+            raises: bound_of(options.raises),
+        },
         states: options.states,
     };
     tell_memory(options.states, telling.world);
     let found = hunt_space(&job.target, &bounds, telling)?;
     let counts = SpaceCounts {
         ticks: options.ticks,
+        raises: options.raises,
         states: found.states,
         events: found.events,
         ends: found.ends,

@@ -44,6 +44,8 @@ pub struct Options<'a> {
     pub most: u64,
     /// The most ticks of a schedule, where every schedule is looked at.
     pub ticks: Option<u64>,
+    /// The most raises of a schedule, where every schedule is looked at.
+    pub raises: Option<u64>,
     /// The most states that are visited then.
     pub states: u32,
     /// After how many seconds no schedule is begun.
@@ -67,7 +69,7 @@ pub(crate) enum WordFault {
     Seeds,
     /// A failure that is counted over a run is looked for in every schedule.
     Counted,
-    /// `--ticks` or `--states` stands without `--all`, or beside a number of switches.
+    /// `--ticks`, `--raises` or `--states` stands without `--all`, or beside a number of switches.
     Bounds,
     /// A word is missing.
     Missing,
@@ -259,7 +261,7 @@ fn fault_of(matches: &ArgMatches<'_>, search: Search, wanted: &Wanted) -> Option
         }
         return None;
     }
-    let names = ["ticks", "states"];
+    let names = ["ticks", "raises", "states"];
     if names
         .iter()
         .any(|name| matches.get_one::<u64>(name).is_some())
@@ -296,6 +298,7 @@ pub(crate) fn options_of<'a>(matches: &ArgMatches<'a>) -> Result<Options<'a>, Wo
         last,
         most: number_of(matches, "runs", 1_000_000),
         ticks: matches.get_one("ticks"),
+        raises: matches.get_one("raises"),
         states: matches.get_one("states").unwrap_or(USUAL_STATES),
         seconds,
         orders: matches.get_flag("order"),

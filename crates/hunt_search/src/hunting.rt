@@ -49,6 +49,8 @@ pub enum SearchSpan {
 pub struct SpaceCounts {
     /// The most ticks of a schedule; None for any number.
     pub ticks: Option<u64>,
+    /// The most raises of a schedule; None for any number.
+    pub raises: Option<u64>,
     /// The states that were visited.
     pub states: u64,
     /// The events that were made at them.

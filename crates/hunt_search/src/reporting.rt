@@ -126,13 +126,20 @@ fn push_schedules(out: &mut String, report: &Report) -> Result<(), Refused> {
     push_number(out, " full ", report.full)
 }
 
+// Appends how many events of a kind may come, if they are bounded.
+fn push_most(out: &mut String, most: Option<u64>, kind: &str) -> Result<(), Refused> {
+    if let Some(most) = most {
+        push_number(out, ", at most ", most)?;
+        push_text(out, kind)?;
+    }
+    Ok(())
+}
+
 // Appends what a search of all schedules has counted.
 fn push_space(out: &mut String, counts: &SpaceCounts) -> Result<(), Refused> {
     push_text(out, "all")?;
-    if let Some(ticks) = counts.ticks {
-        push_number(out, ", at most ", ticks)?;
-        push_text(out, " ticks")?;
-    }
+    push_most(out, counts.ticks, " ticks")?;
+    push_most(out, counts.raises, " raises")?;
     push_number(out, ": states ", counts.states)?;
     push_number(out, " events ", counts.events)?;
     push_number(out, " ends ", counts.ends)

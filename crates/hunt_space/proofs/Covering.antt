@@ -1,5 +1,5 @@
 -- States that cover others: what may come, what fails and where an event leads are alike.
-use Rattle.std.proofs.Common.{◌≡◌, ℕ, zero, suc, ◌<◌, List, [], ◌∷◌, Option, Some, None, Ok, Bool, true, false, length, refl, sym, ap, subst, ◌∙◌, arith}
+use Rattle.std.proofs.Common.{◌≡◌, ℕ, zero, suc, ◌+◌, ◌<◌, ◌≤◌, List, [], ◌∷◌, ◌++◌, Option, Some, None, Ok, Bool, true, false, length, refl, sym, ap, subst, ◌∙◌, arith}
 use Rattle.std.specs.Prelude.{if◌then◌else◌, slice_get}
 use Rattle.evm_model.specs.Good.{GoodState}
 use Rattle.evm_model.specs.Ranks.{stamp_of}
@@ -23,11 +23,13 @@ use Rattle.law_runs.proofs.Alike.TimelessLaws.{rows_keep_alike_timeless}
 use Rattle.law_runs.specs.Alike.{AlikeBoards, StampsBelow}
 use Rattle.law_runs.specs.Timeless.{AlikeTimeless, HasNoTimes, timeless_board}
 use Rattle.hunt_schedules.specs.Making.{MayMake}
-use Rattle.hunt_space.specs.declared.clock.TickBound.{TickBound}
-use Rattle.hunt_space.specs.declared.clock.TickBound.TheVariants.{AtMost, Free}
+use Rattle.hunt_space.specs.Raises.{raise_count, raises_of}
+use Rattle.hunt_space.specs.declared.bounds.Bound.{Bound}
+use Rattle.hunt_space.specs.declared.bounds.Bound.TheVariants.{AtMost, Free}
+use Rattle.hunt_space.specs.declared.bounds.EventBounds.{EventBounds}
 use Rattle.hunt_space.proofs.Timeless.{fails-timeless, may-timeless}
-use Rattle.hunt_space.specs.Runs.{MayCome, MayTick}
-use Rattle.hunt_space.specs.Space.{AreAlikeStates, CallsNone, FitsClock}
+use Rattle.hunt_space.specs.Runs.{MayHaveMore, MayCome}
+use Rattle.hunt_space.specs.Space.{AreAlikeStates, CallsNone, FitsClock, RaisesNoMore}
 
 missing : (tasks : List Task) (t : ℕ) → slice_get tasks t ≡ None → t < length tasks → ⊥
 missing [] t there less = absurd (omega arith)
@@ -71,7 +73,7 @@ boards-more a b c h g = record {
 }
 
 -- states with the same board are alike
-pub alike-same : (clock : TickBound) (s t : State) → StampsBelow s.board.parts → FitsClock clock s → s.board ≡ t.board → AreAlikeStates clock s t
+pub alike-same : (clock : Bound) (s t : State) → StampsBelow s.board.parts → FitsClock clock s → s.board ≡ t.board → AreAlikeStates clock s t
 alike-same (AtMost most) s t below fits e = boards-same s.board t.board below e
 alike-same Free s t below fits e = (
   boards-same (timeless_board s.board) (timeless_board t.board) below (ap timeless_board e),
@@ -79,11 +81,11 @@ alike-same Free s t below fits e = (
   subst (λ (b : Board). HasNoTimes b.parts) e fits,
 )
 
-pub alike-back : (clock : TickBound) (s t : State) → AreAlikeStates clock s t → AreAlikeStates clock t s
+pub alike-back : (clock : Bound) (s t : State) → AreAlikeStates clock s t → AreAlikeStates clock t s
 alike-back (AtMost most) s t h = boards-back s.board t.board h
 alike-back Free s t h = (boards-back (timeless_board s.board) (timeless_board t.board) h.0, h.2, h.1)
 
-pub alike-more : (clock : TickBound) (a b c : State) → AreAlikeStates clock a b → AreAlikeStates clock b c → AreAlikeStates clock a c
+pub alike-more : (clock : Bound) (a b c : State) → AreAlikeStates clock a b → AreAlikeStates clock b c → AreAlikeStates clock a c
 alike-more (AtMost most) a b c h g = boards-more a.board b.board c.board h g
 alike-more Free a b c h g = (boards-more (timeless_board a.board) (timeless_board b.board) (timeless_board c.board) h.0 g.0, h.1, g.2)
 
@@ -115,7 +117,7 @@ same-answers : (event : Event) (s t after behind : State) (answer word : Answer)
 same-answers event s t after behind answer word done done' e = sym (row-answer event s after answer done) ∙ (e ∙ row-answer event t behind word done')
 
 -- an event that both accept has one answer, and leads to states that are alike
-pub alike-next : (clock : TickBound) (event : Event) (s t after behind : State) (answer word : Answer) → AreAlikeStates clock s t → CallsNone clock event s → apply s event ≡ Ok (after, answer)
+pub alike-next : (clock : Bound) (event : Event) (s t after behind : State) (answer word : Answer) → AreAlikeStates clock s t → CallsNone clock event s → apply s event ≡ Ok (after, answer)
     → apply t event ≡ Ok (behind, word) → (answer ≡ word) × AreAlikeStates clock after behind
 alike-next (AtMost most) event s t after behind answer word h calls done done' =
     let kept = rows_keep_alike event s.board t.board h in
@@ -131,29 +133,68 @@ alike-next Free event s t after behind answer word h calls done done' =
     )
 
 -- ---- what may come, and what fails
-may-make : (clock : TickBound) (lines : List ℕ) (s t : State) (event : Event) → AreAlikeStates clock s t → MayMake lines s event → MayMake lines t event
+may-make : (clock : Bound) (lines : List ℕ) (s t : State) (event : Event) → AreAlikeStates clock s t → MayMake lines s event → MayMake lines t event
 may-make (AtMost most) lines s t event h may = choices_are_alike lines s t event h may
 may-make Free lines s t event h may = may-timeless lines s t event h.0 may
 
-may-tick : (clock : TickBound) (s t : State) → AreAlikeStates clock s t → MayTick clock s.board.parts.ticks → MayTick clock t.board.parts.ticks
+may-tick : (clock : Bound) (s t : State) → AreAlikeStates clock s t → MayHaveMore clock s.board.parts.ticks → MayHaveMore clock t.board.parts.ticks
 may-tick (AtMost most) s t h may = subst (λ (n : ℕ). n < most) (ticks-same h.parts) may
 may-tick Free s t h may = tt
 
-pub may-come : (wanted : Wanted) (clock : TickBound) (s t : State) (event : Event) → AreAlikeStates clock s t → MayCome wanted.lines clock s event → MayCome wanted.lines clock t event
-may-come wanted clock s t (Step c) h may = may-make clock wanted.lines s t (Step c) h may
-may-come wanted clock s t Tick h may = (may-make clock wanted.lines s t Tick h may.0, may-tick clock s t h may.1)
-may-come wanted clock s t (Raise c line) h may = may-make clock wanted.lines s t (Raise c line) h may
-may-come wanted clock s t (Bell c line) h may = absurd may
-may-come wanted clock s t (Stop c) h may = absurd may
-may-come wanted clock s t (Go c) h may = absurd may
-may-come wanted clock s t (StepI c) h may = absurd may
-may-come wanted clock s t (SetReg c r value) h may = absurd may
-may-come wanted clock s t (SetPc c pc) h may = absurd may
-may-come wanted clock s t (Poke address bytes) h may = absurd may
-may-come wanted clock s t (Break address) h may = absurd may
-may-come wanted clock s t (Unbreak address) h may = absurd may
+-- a state that has had no more raises has room for one where another has
+may-raise : (bound : Bound) (s t : State) → RaisesNoMore bound t s → MayHaveMore bound (raise_count s.journal) → MayHaveMore bound (raise_count t.journal)
+may-raise (AtMost most) s t fewer room = omega arith
+may-raise Free s t fewer room = tt
 
-pub fails-alike : (clock : TickBound) (wanted : Wanted) (s t after behind : State) (event : Event) (answer : Answer) → AreAlikeStates clock s t → AreAlikeStates clock after behind
+pub may-come : (wanted : Wanted) (bounds : EventBounds) (s t : State) (event : Event) → AreAlikeStates bounds.ticks s t → RaisesNoMore bounds.raises t s → MayCome wanted.lines bounds s event → MayCome wanted.lines bounds t event
+may-come wanted bounds s t (Step c) h fewer may = may-make bounds.ticks wanted.lines s t (Step c) h may
+may-come wanted bounds s t Tick h fewer may = (may-make bounds.ticks wanted.lines s t Tick h may.0, may-tick bounds.ticks s t h may.1)
+may-come wanted bounds s t (Raise c line) h fewer may = (may-make bounds.ticks wanted.lines s t (Raise c line) h may.0, may-raise bounds.raises s t fewer may.1)
+may-come wanted bounds s t (Bell c line) h fewer may = absurd may
+may-come wanted bounds s t (Stop c) h fewer may = absurd may
+may-come wanted bounds s t (Go c) h fewer may = absurd may
+may-come wanted bounds s t (StepI c) h fewer may = absurd may
+may-come wanted bounds s t (SetReg c r value) h fewer may = absurd may
+may-come wanted bounds s t (SetPc c pc) h fewer may = absurd may
+may-come wanted bounds s t (Poke address bytes) h fewer may = absurd may
+may-come wanted bounds s t (Break address) h fewer may = absurd may
+may-come wanted bounds s t (Unbreak address) h fewer may = absurd may
+
+-- ---- how many raises there were
+count-behind : (events : List Event) (event : Event) → raise_count (events ++ event ∷ []) ≡ raise_count events + raises_of event
+count-behind [] event = omega arith
+count-behind (x ∷ xs) event = let h = count-behind xs event in omega arith
+
+raised-next : (event : Event) (s after : State) (answer : Answer) → apply s event ≡ Ok (after, answer) → raise_count after.journal ≡ raise_count s.journal + raises_of event
+raised-next event s after answer done =
+    ap raise_count (ap (λ (p : State × Answer). p.0.journal) (sym (accepted event s after answer done))) ∙ count-behind s.journal event
+
+pub raises-same : (bound : Bound) (s : State) → RaisesNoMore bound s s
+raises-same (AtMost most) s = omega arith
+raises-same Free s = tt
+
+pub raises-more : (bound : Bound) (a b c : State) → RaisesNoMore bound a b → RaisesNoMore bound b c → RaisesNoMore bound a c
+raises-more (AtMost most) a b c h g = omega arith
+raises-more Free a b c h g = tt
+
+-- an event that both accept raises as many lines
+pub raises-next : (bound : Bound) (event : Event) (s t after behind : State) (answer word : Answer) → RaisesNoMore bound s t → apply s event ≡ Ok (after, answer) → apply t event ≡ Ok (behind, word) → RaisesNoMore bound after behind
+raises-next (AtMost most) event s t after behind answer word h done done' =
+    let e = raised-next event s after answer done in
+    let f = raised-next event t behind word done' in
+    omega arith
+raises-next Free event s t after behind answer word h done done' = tt
+
+-- a Step raises none
+pub raises-still : (bound : Bound) (c : ℕ) (s after t : State) (answer : Answer) → RaisesNoMore bound s t → apply s (Step c) ≡ Ok (after, answer) → RaisesNoMore bound after t
+raises-still (AtMost most) c s after t answer h done = let e = raised-next (Step c) s after answer done in omega arith
+raises-still Free c s after t answer h done = tt
+
+pub raises-behind : (bound : Bound) (c : ℕ) (s t behind : State) (word : Answer) → RaisesNoMore bound s t → apply t (Step c) ≡ Ok (behind, word) → RaisesNoMore bound s behind
+raises-behind (AtMost most) c s t behind word h done = let e = raised-next (Step c) t behind word done in omega arith
+raises-behind Free c s t behind word h done = tt
+
+pub fails-alike : (clock : Bound) (wanted : Wanted) (s t after behind : State) (event : Event) (answer : Answer) → AreAlikeStates clock s t → AreAlikeStates clock after behind
     → FailsAsWanted wanted s event answer after → FailsAsWanted wanted t event answer behind
 fails-alike (AtMost most) wanted s t after behind event answer h g fails = failures_are_alike wanted s after t behind event answer h g fails
 fails-alike Free wanted s t after behind event answer h g fails = fails-timeless wanted s t after behind event answer h.0 g.0 fails

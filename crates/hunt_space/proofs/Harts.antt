@@ -8,7 +8,10 @@ use Rattle.evm_model.specs.declared.task.Task.{Task}
 use Rattle.hunt_failures.specs.Awake.{IsAwake, IsOver, is_done}
 use Rattle.law_runs.specs.Ahead.{BoardsAhead, HeadStart}
 use Rattle.hunt_space.specs.Runs.{MayCome}
-use Rattle.hunt_space.specs.declared.clock.TickBound.{TickBound}
+use Rattle.hunt_space.specs.Space.{RaisesNoMore}
+use Rattle.hunt_space.specs.declared.bounds.Bound.{Bound}
+use Rattle.hunt_space.specs.declared.bounds.Bound.TheVariants.{AtMost, Free}
+use Rattle.hunt_space.specs.declared.bounds.EventBounds.{EventBounds}
 
 abbrev pub hart_board : List Hart → Board → Board
 hart_board harts b = record b { parts = record b.parts { harts = harts } }
@@ -35,16 +38,21 @@ over-harts lines s harts h = record {
   pins = h.pins;
 }
 
-pub may-harts : (lines : List ℕ) (clock : TickBound) (s : State) (harts : List Hart) (event : Event) → MayCome lines clock s event → MayCome lines clock (with_harts harts s) event
-may-harts lines clock s harts (Step c) may = awake-harts c s harts may
-may-harts lines clock s harts Tick may = ((λ over. may.0 (over-harts lines s harts over)), may.1)
-may-harts lines clock s harts (Raise c line) may = ((λ over. may.0 (over-harts lines s harts over)), may.1, may.2)
-may-harts lines clock s harts (Bell c line) may = absurd may
-may-harts lines clock s harts (Stop c) may = absurd may
-may-harts lines clock s harts (Go c) may = absurd may
-may-harts lines clock s harts (StepI c) may = absurd may
-may-harts lines clock s harts (SetReg c r value) may = absurd may
-may-harts lines clock s harts (SetPc c pc) may = absurd may
-may-harts lines clock s harts (Poke address bytes) may = absurd may
-may-harts lines clock s harts (Break address) may = absurd may
-may-harts lines clock s harts (Unbreak address) may = absurd may
+pub may-harts : (lines : List ℕ) (bounds : EventBounds) (s : State) (harts : List Hart) (event : Event) → MayCome lines bounds s event → MayCome lines bounds (with_harts harts s) event
+may-harts lines bounds s harts (Step c) may = awake-harts c s harts may
+may-harts lines bounds s harts Tick may = ((λ over. may.0 (over-harts lines s harts over)), may.1)
+may-harts lines bounds s harts (Raise c line) may = (((λ over. may.0.0 (over-harts lines s harts over)), may.0.1, may.0.2), may.1)
+may-harts lines bounds s harts (Bell c line) may = absurd may
+may-harts lines bounds s harts (Stop c) may = absurd may
+may-harts lines bounds s harts (Go c) may = absurd may
+may-harts lines bounds s harts (StepI c) may = absurd may
+may-harts lines bounds s harts (SetReg c r value) may = absurd may
+may-harts lines bounds s harts (SetPc c pc) may = absurd may
+may-harts lines bounds s harts (Poke address bytes) may = absurd may
+may-harts lines bounds s harts (Break address) may = absurd may
+may-harts lines bounds s harts (Unbreak address) may = absurd may
+
+-- other harts raise no line
+pub raises-harts : (bound : Bound) (s t : State) (harts : List Hart) → RaisesNoMore bound s t → RaisesNoMore bound s (with_harts harts t)
+raises-harts (AtMost most) s t harts h = h
+raises-harts Free s t harts h = tt

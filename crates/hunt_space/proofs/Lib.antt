@@ -8,6 +8,7 @@ pub mod Private
 pub mod Harmless
 pub mod FailingAhead
 pub mod Shared
+pub mod Raising
 pub mod Reaching
 pub mod Following
 pub mod Completing

@@ -22,8 +22,8 @@ use Rattle.law_runs.proofs.Alike.AheadReading.{task_count-same}
 use Rattle.law_runs.specs.Ahead.{TasksAhead, actor, goes, has_ready_state, private_hart, private_inst, private_word, text}
 use Rattle.law_runs.specs.Timeless.{hart_at, is_ecall_inst, is_ecall_word, makes_timed_call}
 use Rattle.hunt_space.specs.Space.{CallsNone}
-use Rattle.hunt_space.specs.declared.clock.TickBound.{TickBound}
-use Rattle.hunt_space.specs.declared.clock.TickBound.TheVariants.{AtMost, Free}
+use Rattle.hunt_space.specs.declared.bounds.Bound.{Bound}
+use Rattle.hunt_space.specs.declared.bounds.Bound.TheVariants.{AtMost, Free}
 
 -- ---- the word of an ECALL
 four : (w x y z : Bool) → (w && x && y && z) ≡ true → (w ≡ true) × (x ≡ true) × (y ≡ true) × (z ≡ true)
@@ -82,7 +82,7 @@ hart-untimed : (low high : ℕ) (m : Memory) (o : Option Hart) (next : Hart) →
 hart-untimed low high m None next p = refl
 hart-untimed low high m (Some hart) next p = rw (word-no-ecall (fetch hart.pc m) hart next (fetched low high m hart next p)) refl
 
-pub calls-private : (clock : TickBound) (low high c t : ℕ) (next : Hart) (s : State) → actor c s.board ≡ Some t
+pub calls-private : (clock : Bound) (low high c t : ℕ) (next : Hart) (s : State) → actor c s.board ≡ Some t
     → private_hart (text low high s.board.memory) (slice_get s.board.parts.harts t) ≡ Some next → CallsNone clock (Step c) s
 calls-private (AtMost most) low high c t next s e p = tt
 calls-private Free low high c t next s e p =

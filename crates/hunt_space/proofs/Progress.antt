@@ -18,9 +18,10 @@ use Rattle.hunt_space.specs.Exploring.{HasFork, LeadsSafely}
 use Rattle.hunt_space.specs.Passing.{IsUnderWay}
 use Rattle.hunt_space.specs.Runs.{MayCome}
 use Rattle.hunt_space.specs.Space.{AreExplored, AreAllPaths, AreGone, AreAlikeStates, CallsNone, HasAlikeAt, IsAt, IsKnown, IsExplored, IsExploredAt, IsGone, GoesPrivately, IsPassedAt, IsPathAt, IsUndebugged, IsVisited, KeepsPaths, KeepsPlaces, SparesText, StaysKnown, with_turn}
-use Rattle.hunt_space.specs.declared.clock.TickBound.{TickBound}
+use Rattle.hunt_space.specs.declared.bounds.EventBounds.{EventBounds}
 use Rattle.hunt_space.specs.declared.path.Path.{Path}
 use Rattle.hunt_space.specs.declared.visited.StatePlace.{StatePlace}
+use Rattle.hunt_space.proofs.Covering.{raises-same}
 use Rattle.hunt_space.proofs.Reaching.{at-next}
 
 -- ---- lists that grow
@@ -76,33 +77,33 @@ visited-still : (first : State) (paths paths' : List Path) (places places' : Lis
 visited-still first paths paths' places places' s keeps keeps' v =
     record { index = v.index; place = v.place; turns = v.turns; cpu = v.cpu; there = keeps' v.index v.place v.there; path = path-still paths paths' v.place.path v.turns v.cpu keeps v.path; reached = v.reached }
 
-pub covered-still : (clock : TickBound) (first : State) (paths paths' : List Path) (places places' : List StatePlace) (s : State) → KeepsPaths paths paths' → KeepsPlaces places places' → IsKnown clock first paths places s → IsKnown clock first paths' places' s
-covered-still clock first paths paths' places places' s keeps keeps' h = (h.0, visited-still first paths paths' places places' h.0 keeps keeps' h.1, h.2)
+pub covered-still : (bounds : EventBounds) (first : State) (paths paths' : List Path) (places places' : List StatePlace) (s : State) → KeepsPaths paths paths' → KeepsPlaces places places' → IsKnown bounds first paths places s → IsKnown bounds first paths' places' s
+covered-still bounds first paths paths' places places' s keeps keeps' h = (h.0, visited-still first paths paths' places places' h.0 keeps keeps' h.1, h.2, h.3)
 
-pub stays-still : (wanted : Wanted) (clock : TickBound) (first : State) (paths paths' : List Path) (places places' : List StatePlace) (s : State) (event : Event) → KeepsPaths paths paths' → KeepsPlaces places places'
-    → StaysKnown clock (FailsAsWanted wanted) first paths places s event → StaysKnown clock (FailsAsWanted wanted) first paths' places' s event
-stays-still wanted clock first paths paths' places places' s event keeps keeps' h =
-    record { after = h.after; answer = h.answer; accepted = h.accepted; harmless = h.harmless; known = covered-still clock first paths paths' places places' h.after keeps keeps' h.known }
+pub stays-still : (wanted : Wanted) (bounds : EventBounds) (first : State) (paths paths' : List Path) (places places' : List StatePlace) (s : State) (event : Event) → KeepsPaths paths paths' → KeepsPlaces places places'
+    → StaysKnown bounds (FailsAsWanted wanted) first paths places s event → StaysKnown bounds (FailsAsWanted wanted) first paths' places' s event
+stays-still wanted bounds first paths paths' places places' s event keeps keeps' h =
+    record { after = h.after; answer = h.answer; accepted = h.accepted; harmless = h.harmless; known = covered-still bounds first paths paths' places places' h.after keeps keeps' h.known }
 
-done-still : (low high : ℕ) (wanted : Wanted) (clock : TickBound) (first : State) (paths paths' : List Path) (places places' : List StatePlace) (turns : List CpuTurn) (cpu steps : ℕ) (s : State) → KeepsPaths paths paths' → KeepsPlaces places places'
-    → IsExplored low high clock (MayCome wanted.lines clock) (FailsAsWanted wanted) first paths places turns cpu steps s → IsExplored low high clock (MayCome wanted.lines clock) (FailsAsWanted wanted) first paths' places' turns cpu steps s
-done-still low high wanted clock first paths paths' places places' turns cpu steps s keeps keeps' h = record {
+done-still : (low high : ℕ) (wanted : Wanted) (bounds : EventBounds) (first : State) (paths paths' : List Path) (places places' : List StatePlace) (turns : List CpuTurn) (cpu steps : ℕ) (s : State) → KeepsPaths paths paths' → KeepsPlaces places places'
+    → IsExplored low high bounds (MayCome wanted.lines bounds) (FailsAsWanted wanted) first paths places turns cpu steps s → IsExplored low high bounds (MayCome wanted.lines bounds) (FailsAsWanted wanted) first paths' places' turns cpu steps s
+done-still low high wanted bounds first paths paths' places places' turns cpu steps s keeps keeps' h = record {
   forks = λ choice may other.
       let has = h.forks choice may other in
       (has.0, path-still paths paths' has.0 (with_turn turns cpu steps choice) (stepped cpu (event_of_choice choice)) keeps has.1);
   calls = h.calls;
-  next = λ may. stays-still wanted clock first paths paths' places places' s (Step cpu) keeps keeps' (h.next may);
+  next = λ may. stays-still wanted bounds first paths paths' places places' s (Step cpu) keeps keeps' (h.next may);
   spares = h.spares;
   undebugged = h.undebugged;
 }
 
-done-at-still : (low high : ℕ) (wanted : Wanted) (clock : TickBound) (first : State) (paths paths' : List Path) (places places' : List StatePlace) (place : StatePlace) → KeepsPaths paths paths' → KeepsPlaces places places'
-    → IsExploredAt low high clock (MayCome wanted.lines clock) (FailsAsWanted wanted) first paths places place → IsExploredAt low high clock (MayCome wanted.lines clock) (FailsAsWanted wanted) first paths' places' place
-done-at-still low high wanted clock first paths paths' places places' place keeps keeps' h = record {
+done-at-still : (low high : ℕ) (wanted : Wanted) (bounds : EventBounds) (first : State) (paths paths' : List Path) (places places' : List StatePlace) (place : StatePlace) → KeepsPaths paths paths' → KeepsPlaces places places'
+    → IsExploredAt low high bounds (MayCome wanted.lines bounds) (FailsAsWanted wanted) first paths places place → IsExploredAt low high bounds (MayCome wanted.lines bounds) (FailsAsWanted wanted) first paths' places' place
+done-at-still low high wanted bounds first paths paths' places places' place keeps keeps' h = record {
   turns = h.turns;
   cpu = h.cpu;
   path = path-still paths paths' place.path h.turns h.cpu keeps h.path;
-  done = λ s at. done-still low high wanted clock first paths paths' places places' h.turns h.cpu place.steps s keeps keeps' (h.done s at);
+  done = λ s at. done-still low high wanted bounds first paths paths' places places' h.turns h.cpu place.steps s keeps keeps' (h.done s at);
 }
 
 passed-still : (low high : ℕ) (first : State) (paths paths' : List Path) (places places' : List StatePlace) (i : ℕ) (place : StatePlace) → KeepsPaths paths paths' → KeepsPlaces places places'
@@ -115,33 +116,33 @@ passed-still low high first paths paths' places places' i place keeps keeps' h =
   done = h.done;
 }
 
-pub are-done-still : (low high : ℕ) (wanted : Wanted) (clock : TickBound) (first : State) (paths paths' : List Path) (places places' : List StatePlace) (n : ℕ) → KeepsPaths paths paths' → KeepsPlaces places places' → n ≤ length places
-    → AreExplored low high clock (MayCome wanted.lines clock) (FailsAsWanted wanted) first paths places n → AreExplored low high clock (MayCome wanted.lines clock) (FailsAsWanted wanted) first paths' places' n
-are-done-still low high wanted clock first paths paths' places places' n keeps keeps' within h i place less there =
+pub are-done-still : (low high : ℕ) (wanted : Wanted) (bounds : EventBounds) (first : State) (paths paths' : List Path) (places places' : List StatePlace) (n : ℕ) → KeepsPaths paths paths' → KeepsPlaces places places' → n ≤ length places
+    → AreExplored low high bounds (MayCome wanted.lines bounds) (FailsAsWanted wanted) first paths places n → AreExplored low high bounds (MayCome wanted.lines bounds) (FailsAsWanted wanted) first paths' places' n
+are-done-still low high wanted bounds first paths paths' places places' n keeps keeps' within h i place less there =
     elim (h i place less (one-place places places' i place keeps' (omega arith) there)) [
-      | inl all ↦ inl (done-at-still low high wanted clock first paths paths' places places' place keeps keeps' all)
+      | inl all ↦ inl (done-at-still low high wanted bounds first paths paths' places places' place keeps keeps' all)
       | inr passed ↦ inr (passed-still low high first paths paths' places places' i place keeps keeps' passed)
     ]
 
-pub gone-still : (wanted : Wanted) (clock : TickBound) (first : State) (paths paths' : List Path) (places places' : List StatePlace) (turns : List CpuTurn) → KeepsPaths paths paths' → KeepsPlaces places places'
-    → IsGone clock (FailsAsWanted wanted) first paths places turns → IsGone clock (FailsAsWanted wanted) first paths' places' turns
-gone-still wanted clock first paths paths' places places' turns keeps keeps' h = record {
-  root = λ none. covered-still clock first paths paths' places places' first keeps keeps' (h.root none);
-  last = λ front turn s same at. stays-still wanted clock first paths paths' places places' s (event_of_choice turn.choice) keeps keeps' (h.last front turn s same at);
+pub gone-still : (wanted : Wanted) (bounds : EventBounds) (first : State) (paths paths' : List Path) (places places' : List StatePlace) (turns : List CpuTurn) → KeepsPaths paths paths' → KeepsPlaces places places'
+    → IsGone bounds (FailsAsWanted wanted) first paths places turns → IsGone bounds (FailsAsWanted wanted) first paths' places' turns
+gone-still wanted bounds first paths paths' places places' turns keeps keeps' h = record {
+  root = λ none. covered-still bounds first paths paths' places places' first keeps keeps' (h.root none);
+  last = λ front turn s same at. stays-still wanted bounds first paths paths' places places' s (event_of_choice turn.choice) keeps keeps' (h.last front turn s same at);
 }
 
 -- ---- a path under way
 -- no event that may come reads the clock or names a time
-abbrev pub CallsNoneOf : Wanted → TickBound → State → Type 0
-CallsNoneOf wanted clock s = (event : Event) → MayCome wanted.lines clock s event → CallsNone clock event s
+abbrev pub CallsNoneOf : Wanted → EventBounds → State → Type 0
+CallsNoneOf wanted bounds s = (event : Event) → MayCome wanted.lines bounds s event → CallsNone bounds.ticks event s
 
 -- a state whose place is the last one is visited
-pub visited-last : (clock : TickBound) (first : State) (paths : List Path) (places after : List StatePlace) (number : ℕ) (turns : List CpuTurn) (cpu steps : ℕ) (s : State) → IsPathAt paths number turns cpu → IsAt first turns cpu steps s
-    → after ≡ places ++ record { path = number; steps = steps } ∷ [] → AreAlikeStates clock s s → IsKnown clock first paths after s
-visited-last clock first paths places after number turns cpu steps s path at e itself =
+pub visited-last : (bounds : EventBounds) (first : State) (paths : List Path) (places after : List StatePlace) (number : ℕ) (turns : List CpuTurn) (cpu steps : ℕ) (s : State) → IsPathAt paths number turns cpu → IsAt first turns cpu steps s
+    → after ≡ places ++ record { path = number; steps = steps } ∷ [] → AreAlikeStates bounds.ticks s s → IsKnown bounds first paths after s
+visited-last bounds first paths places after number turns cpu steps s path at e itself =
     let place : StatePlace = record { path = number; steps = steps } in
     let there : slice_get after (length places) ≡ Some place = ap (λ (xs : List StatePlace). slice_get xs (length places)) e ∙ last-place places place in
-    (s, record { index = length places; place = place; turns = turns; cpu = cpu; there = there; path = path; reached = at }, itself)
+    (s, record { index = length places; place = place; turns = turns; cpu = cpu; there = there; path = path; reached = at }, itself, raises-same bounds.raises s)
 
 before-or-last : (i n : ℕ) → i < suc n → (i < n) ⊎ (i ≡ n)
 before-or-last zero zero less = inr refl
@@ -153,50 +154,50 @@ before-or-last (suc i) (suc n) less = elim (before-or-last i n (omega arith)) [
 ]
 
 -- a place is explored or passed
-abbrev pub IsDoneAt : ℕ → ℕ → Wanted → TickBound → State → List Path → List StatePlace → ℕ → StatePlace → Type 0
-IsDoneAt low high wanted clock first paths places i place = IsExploredAt low high clock (MayCome wanted.lines clock) (FailsAsWanted wanted) first paths places place ⊎ IsPassedAt low high first paths places i place
+abbrev pub IsDoneAt : ℕ → ℕ → Wanted → EventBounds → State → List Path → List StatePlace → ℕ → StatePlace → Type 0
+IsDoneAt low high wanted bounds first paths places i place = IsExploredAt low high bounds (MayCome wanted.lines bounds) (FailsAsWanted wanted) first paths places place ⊎ IsPassedAt low high first paths places i place
 
 -- the last place is done too
-lasts : (low high : ℕ) (wanted : Wanted) (clock : TickBound) (first : State) (paths paths' : List Path) (places places' : List StatePlace) (number : ℕ) (turns : List CpuTurn) (cpu steps : ℕ) (s : State)
-    → (way : IsUnderWay low high wanted clock first paths places number turns cpu steps s) → KeepsPaths paths paths' → KeepsPlaces places places'
-    → IsDoneAt low high wanted clock first paths' places' way.count (record { path = number; steps = steps }) → AreExplored low high clock (MayCome wanted.lines clock) (FailsAsWanted wanted) first paths' places' (length places)
-lasts low high wanted clock first paths paths' places places' number turns cpu steps s way keeps keeps' last i place less there =
+lasts : (low high : ℕ) (wanted : Wanted) (bounds : EventBounds) (first : State) (paths paths' : List Path) (places places' : List StatePlace) (number : ℕ) (turns : List CpuTurn) (cpu steps : ℕ) (s : State)
+    → (way : IsUnderWay low high wanted bounds first paths places number turns cpu steps s) → KeepsPaths paths paths' → KeepsPlaces places places'
+    → IsDoneAt low high wanted bounds first paths' places' way.count (record { path = number; steps = steps }) → AreExplored low high bounds (MayCome wanted.lines bounds) (FailsAsWanted wanted) first paths' places' (length places)
+lasts low high wanted bounds first paths paths' places places' number turns cpu steps s way keeps keeps' last i place less there =
     let counted = way.counted in
     let old = one-place places places' i place keeps' less there in
     elim (before-or-last i way.count (omega arith)) [
-      | inl before ↦ are-done-still low high wanted clock first paths paths' places places' way.count keeps keeps' (omega arith) way.done i place before there
+      | inl before ↦ are-done-still low high wanted bounds first paths paths' places places' way.count keeps keeps' (omega arith) way.done i place before there
       | inr same ↦
           let here : slice_get places way.count ≡ Some place = subst (λ (n : ℕ). slice_get places n ≡ Some place) same old in
           let both : Some (let p : StatePlace = record { path = number; steps = steps } in p) ≡ Some place = sym way.last ∙ here in
           let is : (let p : StatePlace = record { path = number; steps = steps } in p) ≡ place = cc in
-          subst (λ (n : ℕ). IsDoneAt low high wanted clock first paths' places' n place) (sym same)
-          (subst (λ (p : StatePlace). IsDoneAt low high wanted clock first paths' places' way.count p) is last)
+          subst (λ (n : ℕ). IsDoneAt low high wanted bounds first paths' places' n place) (sym same)
+          (subst (λ (p : StatePlace). IsDoneAt low high wanted bounds first paths' places' way.count p) is last)
     ]
 
 -- it is explored
-pub finishes : (low high : ℕ) (wanted : Wanted) (clock : TickBound) (first : State) (paths paths' : List Path) (places places' : List StatePlace) (number : ℕ) (turns : List CpuTurn) (cpu steps : ℕ) (s : State)
-    → (way : IsUnderWay low high wanted clock first paths places number turns cpu steps s) → KeepsPaths paths paths' → KeepsPlaces places places' → AreAllPaths (MayCome wanted.lines clock) paths' turns cpu steps s → CallsNoneOf wanted clock s
-    → SparesText low high (MayCome wanted.lines clock) s → IsUndebugged s → (MayCome wanted.lines clock s (Step cpu) → StaysKnown clock (FailsAsWanted wanted) first paths' places' s (Step cpu))
-    → AreExplored low high clock (MayCome wanted.lines clock) (FailsAsWanted wanted) first paths' places' (length places)
-finishes low high wanted clock first paths paths' places places' number turns cpu steps s way keeps keeps' forks calls spares clean next =
-    let all : IsExplored low high clock (MayCome wanted.lines clock) (FailsAsWanted wanted) first paths' places' turns cpu steps s = record { forks = forks; calls = calls; next = next; spares = spares; undebugged = clean } in
-    lasts low high wanted clock first paths paths' places places' number turns cpu steps s way keeps keeps' (inl (record {
+pub finishes : (low high : ℕ) (wanted : Wanted) (bounds : EventBounds) (first : State) (paths paths' : List Path) (places places' : List StatePlace) (number : ℕ) (turns : List CpuTurn) (cpu steps : ℕ) (s : State)
+    → (way : IsUnderWay low high wanted bounds first paths places number turns cpu steps s) → KeepsPaths paths paths' → KeepsPlaces places places' → AreAllPaths (MayCome wanted.lines bounds) paths' turns cpu steps s → CallsNoneOf wanted bounds s
+    → SparesText low high (MayCome wanted.lines bounds) s → IsUndebugged s → (MayCome wanted.lines bounds s (Step cpu) → StaysKnown bounds (FailsAsWanted wanted) first paths' places' s (Step cpu))
+    → AreExplored low high bounds (MayCome wanted.lines bounds) (FailsAsWanted wanted) first paths' places' (length places)
+finishes low high wanted bounds first paths paths' places places' number turns cpu steps s way keeps keeps' forks calls spares clean next =
+    let all : IsExplored low high bounds (MayCome wanted.lines bounds) (FailsAsWanted wanted) first paths' places' turns cpu steps s = record { forks = forks; calls = calls; next = next; spares = spares; undebugged = clean } in
+    lasts low high wanted bounds first paths paths' places places' number turns cpu steps s way keeps keeps' (inl (record {
       turns = turns;
       cpu = cpu;
       path = path-still paths paths' number turns cpu keeps way.path;
-      done = λ t at. subst (λ (x : State). IsExplored low high clock (MayCome wanted.lines clock) (FailsAsWanted wanted) first paths' places' turns cpu steps x) (way.at ∙ sym at) all;
+      done = λ t at. subst (λ (x : State). IsExplored low high bounds (MayCome wanted.lines bounds) (FailsAsWanted wanted) first paths' places' turns cpu steps x) (way.at ∙ sym at) all;
     }))
 
 -- a step that was made leads to a state that is covered
-pub made-stays : (wanted : Wanted) (clock : TickBound) (first : State) (paths : List Path) (places : List StatePlace) (s after : State) (event : Event) → LeadsSafely wanted s event after → IsKnown clock first paths places after
-    → StaysKnown clock (FailsAsWanted wanted) first paths places s event
-made-stays wanted clock first paths places s after event made covered = record { after = after; answer = made.answer; accepted = made.accepted; harmless = made.harmless; known = covered }
+pub made-stays : (wanted : Wanted) (bounds : EventBounds) (first : State) (paths : List Path) (places : List StatePlace) (s after : State) (event : Event) → LeadsSafely wanted s event after → IsKnown bounds first paths places after
+    → StaysKnown bounds (FailsAsWanted wanted) first paths places s event
+made-stays wanted bounds first paths places s after event made covered = record { after = after; answer = made.answer; accepted = made.accepted; harmless = made.harmless; known = covered }
 
 -- the path passes this state by a private row
-pub passes-on : (low high : ℕ) (wanted : Wanted) (clock : TickBound) (first : State) (paths : List Path) (places places' : List StatePlace) (number : ℕ) (turns : List CpuTurn) (cpu steps : ℕ) (s after : State) (answer : Answer)
-    → IsUnderWay low high wanted clock first paths places number turns cpu steps s → GoesPrivately low high cpu s → places' ≡ places ++ record { path = number; steps = steps + 1 } ∷ [] → apply s (Step cpu) ≡ Ok (after, answer)
-    → IsUnderWay low high wanted clock first paths places' number turns cpu (steps + 1) after
-passes-on low high wanted clock first paths places places' number turns cpu steps s after answer way passed e made =
+pub passes-on : (low high : ℕ) (wanted : Wanted) (bounds : EventBounds) (first : State) (paths : List Path) (places places' : List StatePlace) (number : ℕ) (turns : List CpuTurn) (cpu steps : ℕ) (s after : State) (answer : Answer)
+    → IsUnderWay low high wanted bounds first paths places number turns cpu steps s → GoesPrivately low high cpu s → places' ≡ places ++ record { path = number; steps = steps + 1 } ∷ [] → apply s (Step cpu) ≡ Ok (after, answer)
+    → IsUnderWay low high wanted bounds first paths places' number turns cpu (steps + 1) after
+passes-on low high wanted bounds first paths places places' number turns cpu steps s after answer way passed e made =
     let place : StatePlace = record { path = number; steps = steps + 1 } in
     let keeps' : KeepsPlaces places places' = λ i x h. subst (λ (xs : List StatePlace). slice_get xs i ≡ Some x) (sym e) (places-more places (place ∷ []) i x h) in
     let last' : slice_get places' (length places) ≡ Some place = ap (λ (xs : List StatePlace). slice_get xs (length places)) e ∙ last-place places place in
@@ -206,7 +207,7 @@ passes-on low high wanted clock first paths places places' number turns cpu step
       last = last';
       path = way.path;
       at = at-next first s after turns cpu steps answer way.at made;
-      done = lasts low high wanted clock first paths paths places places' number turns cpu steps s way (λ j x h. h) keeps' (inr (record {
+      done = lasts low high wanted bounds first paths paths places places' number turns cpu steps s way (λ j x h. h) keeps' (inr (record {
         turns = turns;
         cpu = cpu;
         path = way.path;
@@ -222,24 +223,24 @@ has-path (x ∷ xs) zero less = (x, refl)
 has-path (x ∷ xs) (suc i) less = has-path xs i (omega arith)
 
 -- one path more was gone
-pub gone-more : (wanted : Wanted) (clock : TickBound) (first : State) (paths paths' : List Path) (places places' : List StatePlace) (n : ℕ) (turns : List CpuTurn) (cpu : ℕ) → KeepsPaths paths paths' → KeepsPlaces places places' → n ≤ length paths
-    → IsPathAt paths' n turns cpu → IsGone clock (FailsAsWanted wanted) first paths' places' turns → AreGone clock (FailsAsWanted wanted) first paths places n → AreGone clock (FailsAsWanted wanted) first paths' places' (n + 1)
-gone-more wanted clock first paths paths' places places' n turns cpu keeps keeps' within here gone old j path less there =
+pub gone-more : (wanted : Wanted) (bounds : EventBounds) (first : State) (paths paths' : List Path) (places places' : List StatePlace) (n : ℕ) (turns : List CpuTurn) (cpu : ℕ) → KeepsPaths paths paths' → KeepsPlaces places places' → n ≤ length paths
+    → IsPathAt paths' n turns cpu → IsGone bounds (FailsAsWanted wanted) first paths' places' turns → AreGone bounds (FailsAsWanted wanted) first paths places n → AreGone bounds (FailsAsWanted wanted) first paths' places' (n + 1)
+gone-more wanted bounds first paths paths' places places' n turns cpu keeps keeps' within here gone old j path less there =
     elim (before-or-last j n (omega arith)) [
       | inl before ↦
           let had = has-path paths j (omega arith) in
           let both : Some had.0 ≡ Some path = sym (keeps j had.0 had.1) ∙ there in
-          gone-still wanted clock first paths paths' places places' path.turns.items keeps keeps' (old j path before (had.1 ∙ both))
+          gone-still wanted bounds first paths paths' places places' path.turns.items keeps keeps' (old j path before (had.1 ∙ both))
       | inr same ↦
           let at : slice_get paths' n ≡ Some path = subst (λ (k : ℕ). slice_get paths' k ≡ Some path) same there in
           let both : Some here.0 ≡ Some path = sym here.1 ∙ at in
           let is : here.0 ≡ path = cc in
           let turns' : turns ≡ path.turns.items = sym here.2 ∙ ap (λ (p : Path). p.turns.items) is in
-          subst (λ (xs : List CpuTurn). IsGone clock (FailsAsWanted wanted) first paths' places' xs) turns' gone
+          subst (λ (xs : List CpuTurn). IsGone bounds (FailsAsWanted wanted) first paths' places' xs) turns' gone
     ]
 
 -- the state of a place that was visited is alike
-pub known-by : (clock : TickBound) (first : State) (paths : List Path) (places : List StatePlace) (place : StatePlace) (s : State) → (i : ℕ) × (slice_get places i ≡ Some place) → HasAlikeAt clock first paths place s
-    → IsKnown clock first paths places s
-known-by clock first paths places place s at h =
-    (h.seen, record { index = at.0; place = place; turns = h.turns; cpu = h.cpu; there = at.1; path = h.path; reached = h.reached }, h.alike)
+pub known-by : (bounds : EventBounds) (first : State) (paths : List Path) (places : List StatePlace) (place : StatePlace) (s : State) → (i : ℕ) × (slice_get places i ≡ Some place) → HasAlikeAt bounds first paths place s
+    → IsKnown bounds first paths places s
+known-by bounds first paths places place s at h =
+    (h.seen, record { index = at.0; place = place; turns = h.turns; cpu = h.cpu; there = at.1; path = h.path; reached = h.reached }, h.alike, h.raised)

@@ -19,14 +19,14 @@ use Rattle.hunt_space.proofs.Failing.{current-same}
 use Rattle.hunt_space.proofs.Reading.{ReadsSame, read-pipe, read-task, reads-same, reads-timeless}
 use Rattle.hunt_space.specs.Demoting.{FailsOrDemotes, IsDemotedByLine}
 use Rattle.hunt_space.specs.Space.{AreAlikeStates, CallsNone}
-use Rattle.hunt_space.specs.declared.clock.TickBound.{TickBound}
-use Rattle.hunt_space.specs.declared.clock.TickBound.TheVariants.{AtMost, Free}
+use Rattle.hunt_space.specs.declared.bounds.Bound.{Bound}
+use Rattle.hunt_space.specs.declared.bounds.Bound.TheVariants.{AtMost, Free}
 
-pub reads-alike : (clock : TickBound) (s t : State) → AreAlikeStates clock s t → ReadsSame s.board t.board
+pub reads-alike : (clock : Bound) (s t : State) → AreAlikeStates clock s t → ReadsSame s.board t.board
 reads-alike (AtMost most) s t h = reads-same s.board t.board h
 reads-alike Free s t h = reads-timeless s.board t.board h.0
 
-pub breakpoints-alike : (clock : TickBound) (s t : State) → AreAlikeStates clock s t → s.board.breakpoints ≡ t.board.breakpoints
+pub breakpoints-alike : (clock : Bound) (s t : State) → AreAlikeStates clock s t → s.board.breakpoints ≡ t.board.breakpoints
 breakpoints-alike (AtMost most) s t h = h.breakpoints
 breakpoints-alike Free s t h = h.0.breakpoints
 
@@ -41,7 +41,7 @@ actor-alike a b r c =
     ∙ read-pipe a b r (actor_among (slice_get b.parts.processors c)) c (actor-blind (slice_get b.parts.processors c))
 
 -- ---- states with the same boards
-pub alike-boards : (clock : TickBound) (s s' t t' : State) → s.board ≡ s'.board → t.board ≡ t'.board → AreAlikeStates clock s t → AreAlikeStates clock s' t'
+pub alike-boards : (clock : Bound) (s s' t t' : State) → s.board ≡ s'.board → t.board ≡ t'.board → AreAlikeStates clock s t → AreAlikeStates clock s' t'
 alike-boards (AtMost most) s s' t t' e f h = subst (λ (b : Board). AlikeBoards s'.board b) f (subst (λ (b : Board). AlikeBoards b t.board) e h)
 alike-boards Free s s' t t' e f h = (
   subst (λ (b : Board). AlikeTimeless s'.board b) f (subst (λ (b : Board). AlikeTimeless b t.board) e h.0),
@@ -53,7 +53,7 @@ abbrev pub with_board : Board → State → State
 with_board b s = record s { board = b }
 
 -- an event does alike to both, whether or not a journal takes it
-pub alike-row : (clock : TickBound) (event : Event) (s t : State) → AreAlikeStates clock s t → CallsNone clock event s
+pub alike-row : (clock : Bound) (event : Event) (s t : State) → AreAlikeStates clock s t → CallsNone clock event s
     → ((row event s.board).1 ≡ (row event t.board).1) × AreAlikeStates clock (with_board (row event s.board).0 s) (with_board (row event t.board).0 t)
 alike-row (AtMost most) event s t h calls = let kept = rows_keep_alike event s.board t.board h in (kept.1, kept.0)
 alike-row Free event s t h calls =
@@ -70,7 +70,7 @@ demotes-alike t before after before' after' event r q h = record {
   is_in_band = sym (read-task after.board after'.board q is_in_band_task t (λ x. refl)) ∙ h.is_in_band;
 }
 
-pub demotes-or-fails : (high : ℕ) (clock : TickBound) (wanted : Wanted) (s t after behind : State) (event : Event) (answer : Answer) → AreAlikeStates clock s t → AreAlikeStates clock after behind
+pub demotes-or-fails : (high : ℕ) (clock : Bound) (wanted : Wanted) (s t after behind : State) (event : Event) (answer : Answer) → AreAlikeStates clock s t → AreAlikeStates clock after behind
     → FailsOrDemotes high wanted s event answer after → FailsOrDemotes high wanted t event answer behind
 demotes-or-fails high clock wanted s t after behind event answer h g (inl fails) = inl (fails-alike clock wanted s t after behind event answer h g fails)
 demotes-or-fails high clock wanted s t after behind event answer h g (inr demotes) =

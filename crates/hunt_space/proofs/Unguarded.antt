@@ -43,7 +43,7 @@ use Rattle.hunt_space.specs.Complete.{SearchesWithoutWatchdog}
 use Rattle.hunt_space.specs.Demoting.{FailsOrDemotes, IsDemotedByLine}
 use Rattle.hunt_space.specs.Runs.{MayCome}
 use Rattle.hunt_space.specs.Space.{AreExplored, AreGone, IsAt, IsExploredAt, StaysKnown}
-use Rattle.hunt_space.specs.declared.clock.TickBound.{TickBound}
+use Rattle.hunt_space.specs.declared.bounds.EventBounds.{EventBounds}
 use Rattle.hunt_space.specs.declared.path.Path.{Path}
 use Rattle.hunt_space.specs.declared.visited.StatePlace.{StatePlace}
 
@@ -140,7 +140,7 @@ begun-boot : (image : Contents) (boot : Boot) (s : State) → Begins image boot 
 unfolding load
 begun-boot image boot s h = loaded-boot image (start program_devices boot) s (load_refusal image (start program_devices boot)) h
 
-module _ (wanted : Wanted) (clock : TickBound) (first : State) (paths : List Path) (places : List StatePlace) (good : GoodState first) (high : ℕ) (none : wanted.demotion ≡ true → 0 < high → first.boot.watchdog ≡ 0) where
+module _ (wanted : Wanted) (bounds : EventBounds) (first : State) (paths : List Path) (places : List StatePlace) (good : GoodState first) (high : ℕ) (none : wanted.demotion ≡ true → 0 < high → first.boot.watchdog ≡ 0) where
   at-good : (turns : List CpuTurn) (cpu steps : ℕ) (s : State) → IsAt first turns cpu steps s → GoodState s
   at-good turns cpu steps s at = subst (λ (x : State). GoodState x) (sym at) (GoodState-replay first (events_of_turns turns ++ replicate steps (Step cpu)) good)
 
@@ -149,8 +149,8 @@ module _ (wanted : Wanted) (clock : TickBound) (first : State) (paths : List Pat
       let boots : s.boot ≡ first.boot = ap (λ (x : State). x.boot) at ∙ boot-replay (events_of_turns turns ++ replicate steps (Step cpu)) first in
       ap (λ (p : Profile). p.watchdog) (at-good turns cpu steps s at).profile ∙ ap (λ (b : Boot). b.watchdog) boots ∙ none sought some
 
-  stays-harmless : (turns : List CpuTurn) (cpu steps : ℕ) (s : State) (event : Event) → IsAt first turns cpu steps s → StaysKnown clock (FailsAsWanted wanted) first paths places s event
-      → StaysKnown clock (FailsOrDemotes high wanted) first paths places s event
+  stays-harmless : (turns : List CpuTurn) (cpu steps : ℕ) (s : State) (event : Event) → IsAt first turns cpu steps s → StaysKnown bounds (FailsAsWanted wanted) first paths places s event
+      → StaysKnown bounds (FailsOrDemotes high wanted) first paths places s event
   stays-harmless turns cpu steps s event at stays = record {
     after = stays.after;
     answer = stays.answer;
@@ -162,8 +162,8 @@ module _ (wanted : Wanted) (clock : TickBound) (first : State) (paths : List Pat
     known = stays.known;
   }
 
-  explored-harmless : (low : ℕ) (place : StatePlace) → IsExploredAt low high clock (MayCome wanted.lines clock) (FailsAsWanted wanted) first paths places place
-      → IsExploredAt low high clock (MayCome wanted.lines clock) (FailsOrDemotes high wanted) first paths places place
+  explored-harmless : (low : ℕ) (place : StatePlace) → IsExploredAt low high bounds (MayCome wanted.lines bounds) (FailsAsWanted wanted) first paths places place
+      → IsExploredAt low high bounds (MayCome wanted.lines bounds) (FailsOrDemotes high wanted) first paths places place
   explored-harmless low place all = record {
     turns = all.turns;
     cpu = all.cpu;
@@ -179,19 +179,19 @@ module _ (wanted : Wanted) (clock : TickBound) (first : State) (paths : List Pat
         };
   }
 
-  all-harmless : (low n : ℕ) → AreExplored low high clock (MayCome wanted.lines clock) (FailsAsWanted wanted) first paths places n → AreExplored low high clock (MayCome wanted.lines clock) (FailsOrDemotes high wanted) first paths places n
+  all-harmless : (low n : ℕ) → AreExplored low high bounds (MayCome wanted.lines bounds) (FailsAsWanted wanted) first paths places n → AreExplored low high bounds (MayCome wanted.lines bounds) (FailsOrDemotes high wanted) first paths places n
   all-harmless low n done i place less there = elim (done i place less there) [
     | inl all ↦ inl (explored-harmless low place all)
     | inr passed ↦ inr passed
   ]
 
-  gone-harmless : (n : ℕ) → AreGone clock (FailsAsWanted wanted) first paths places n → AreGone clock (FailsOrDemotes high wanted) first paths places n
+  gone-harmless : (n : ℕ) → AreGone bounds (FailsAsWanted wanted) first paths places n → AreGone bounds (FailsOrDemotes high wanted) first paths places n
   gone-harmless n gone j path less there =
       let old = gone j path less there in
       record { root = old.root; last = λ front turn s same at. stays-harmless front turn.cpu turn.steps s (event_of_choice turn.choice) at (old.last front turn s same at) }
 
 pub searches_without_watchdog : SearchesWithoutWatchdog
-searches_without_watchdog low high image boot wanted clock first paths places root begins good none there start' done gone =
+searches_without_watchdog low high image boot wanted bounds first paths places root begins good none there start' done gone =
     let none' : wanted.demotion ≡ true → 0 < high → first.boot.watchdog ≡ 0 = λ sought some. ap (λ (b : Boot). b.watchdog) (begun-boot image boot first begins) ∙ none sought some in
-    searches_are_complete low high image boot wanted clock first paths places root begins good.good there start'
-    (all-harmless wanted clock first paths places good high none' low (length places) done) (gone-harmless wanted clock first paths places good high none' (length paths) gone)
+    searches_are_complete low high image boot wanted bounds first paths places root begins good.good there start'
+    (all-harmless wanted bounds first paths places good high none' low (length places) done) (gone-harmless wanted bounds first paths places good high none' (length paths) gone)

@@ -20,7 +20,7 @@ use Rattle.hunt_space.specs.Space.{IsAt, IsGone, IsKnown, KeepsPaths, KeepsPlace
 use Rattle.hunt_space.specs.Standing.{BeginsAfresh}
 use Rattle.hunt_space.specs.declared.attempt.Attempt.{Attempt}
 use Rattle.hunt_space.specs.declared.attempt.Attempt.TheVariants.{Harmless, Fails, Refused}
-use Rattle.hunt_space.specs.declared.clock.TickBound.{TickBound}
+use Rattle.hunt_space.specs.declared.bounds.EventBounds.{EventBounds}
 use Rattle.hunt_space.specs.declared.going.Going.{Going}
 use Rattle.hunt_space.specs.declared.path.Path.{Path}
 use Rattle.hunt_space.specs.declared.seeing.Arrival.TheVariants.{First, Again}
@@ -38,7 +38,7 @@ pub begins-walk : (going : Going) (paths : List Path) (places : List StatePlace)
 begins-walk going paths places s = record {
   known = λ after keeps known. known;
   explored = λ after keeps known first starts done.
-      are-done-still going.text.low going.text.high going.target.wanted.now going.clock first paths paths places after (length places) (λ j path h. h) keeps (omega arith) done;
+      are-done-still going.text.low going.text.high going.target.wanted.now going.bounds first paths paths places after (length places) (λ j path h. h) keeps (omega arith) done;
 }
 
 -- the state is known already
@@ -71,10 +71,10 @@ walks-to going before paths seen places after steps begun s awaits path leads e 
 pub walks-on : (going : Going) (before paths paths' : List Path) (seen places : List StatePlace) (steps : ℕ) (begun s t : State) → IsVisiting going before paths seen places steps begun s → KeepsPaths paths paths' → Opens going paths' steps s
     → LeadsSafely going.target.wanted.now s (Step going.path.now.cpu) t → IsAwaiting going before paths' seen places begun t
 walks-on going before paths paths' seen places steps begun s t visits keeps opens made = record {
-  known = λ after keeps' known first starts. covered-still going.clock first paths paths' places after begun keeps keeps' (visits.known first starts);
+  known = λ after keeps' known first starts. covered-still going.bounds first paths paths' places after begun keeps keeps' (visits.known first starts);
   explored = λ after keeps' known first starts done.
-      finishes going.text.low going.text.high going.target.wanted.now going.clock first paths paths' places after going.number going.path.now.turns.items going.path.now.cpu steps s (visits.way first starts done) keeps keeps'
-      opens.forks opens.calls opens.spares opens.undebugged (λ may. made-stays going.target.wanted.now going.clock first paths' after s t (Step going.path.now.cpu) made (known first starts));
+      finishes going.text.low going.text.high going.target.wanted.now going.bounds first paths paths' places after going.number going.path.now.turns.items going.path.now.cpu steps s (visits.way first starts done) keeps keeps'
+      opens.forks opens.calls opens.spares opens.undebugged (λ may. made-stays going.target.wanted.now going.bounds first paths' after s t (Step going.path.now.cpu) made (known first starts));
 }
 
 pub leads-on : (going : Going) (steps : ℕ) (s t : State) → LeadsTo going steps s → LeadsSafely going.target.wanted.now s (Step going.path.now.cpu) t → LeadsTo going (steps + 1) t
@@ -85,20 +85,20 @@ true-false e = cc
 
 -- the path ends there
 pub walks-out : (going : Going) (before paths paths' : List Path) (seen places : List StatePlace) (steps : ℕ) (begun s t : State) (cut : Bool) (outcome : RunOutcome) → is_failed outcome ≡ false → cut ≡ false
-    → EndsPath going.target.wanted.now going.clock going.path.now.cpu cut s t outcome → IsVisiting going before paths seen places steps begun s → KeepsPaths paths paths' → Opens going paths' steps s → HasGoneOn going before paths' seen places begun
+    → EndsPath going.target.wanted.now going.bounds going.path.now.cpu cut s t outcome → IsVisiting going before paths seen places steps begun s → KeepsPaths paths paths' → Opens going paths' steps s → HasGoneOn going before paths' seen places begun
 walks-out going before paths paths' seen places steps begun s t cut (Failed failure) alive none ends visits keeps opens = absurd (true-false alive)
 walks-out going before paths paths' seen places steps begun s t cut Over alive none ends visits keeps opens = record {
-  known = λ first starts. covered-still going.clock first paths paths' places places begun keeps (λ i place h. h) (visits.known first starts);
+  known = λ first starts. covered-still going.bounds first paths paths' places places begun keeps (λ i place h. h) (visits.known first starts);
   explored = λ first starts done.
-      finishes going.text.low going.text.high going.target.wanted.now going.clock first paths paths' places places going.number going.path.now.turns.items going.path.now.cpu steps s (visits.way first starts done) keeps (λ i place h. h)
+      finishes going.text.low going.text.high going.target.wanted.now going.bounds first paths paths' places places going.number going.path.now.turns.items going.path.now.cpu steps s (visits.way first starts done) keeps (λ i place h. h)
       opens.forks opens.calls opens.spares opens.undebugged (λ may. absurd (ends may));
 }
 walks-out going before paths paths' seen places steps begun s t cut Full alive none ends visits keeps opens = absurd (true-false (sym ends ∙ none))
 
-pub ends-walk : (wanted : Wanted) (clock : TickBound) (cpu : ℕ) (cut : Bool) (s t : State) (outcome : RunOutcome) → EndsPath wanted clock cpu cut s t outcome → Ends wanted.lines outcome t
-ends-walk wanted clock cpu cut s t (Failed failure) h = h
-ends-walk wanted clock cpu cut s t Over h = tt
-ends-walk wanted clock cpu cut s t Full h = tt
+pub ends-walk : (wanted : Wanted) (bounds : EventBounds) (cpu : ℕ) (cut : Bool) (s t : State) (outcome : RunOutcome) → EndsPath wanted bounds cpu cut s t outcome → Ends wanted.lines outcome t
+ends-walk wanted bounds cpu cut s t (Failed failure) h = h
+ends-walk wanted bounds cpu cut s t Over h = tt
+ends-walk wanted bounds cpu cut s t Full h = tt
 
 -- ---- what a visit comes to
 -- one that was visited is alike
@@ -120,9 +120,9 @@ pub passes-more : (going : Going) (places after after' : List StatePlace) (from 
     → PassesRows going places after' from (steps + 1) s u
 passes-more going places after after' from steps s t u passes keeps row before paths seen begun visits =
     let here = passes before paths seen begun visits in record {
-      known = λ first starts. covered-still going.clock first paths paths after after' begun (λ j path h. h) keeps (here.known first starts);
+      known = λ first starts. covered-still going.bounds first paths paths after after' begun (λ j path h. h) keeps (here.known first starts);
       way = λ first starts done.
-          passes-on going.text.low going.text.high going.target.wanted.now going.clock first paths after after' going.number going.path.now.turns.items going.path.now.cpu steps t u row.0.answer (here.way first starts done) row.0.private row.1 row.0.accepted;
+          passes-on going.text.low going.text.high going.target.wanted.now going.bounds first paths after after' going.number going.path.now.turns.items going.path.now.cpu steps t u row.0.answer (here.way first starts done) row.0.private row.1 row.0.accepted;
     }
 
 pub leads-past : (going : Going) (steps : ℕ) (s t : State) (places after : List StatePlace) → LeadsTo going steps s → ComesOfRow going steps s t places after true → LeadsTo going (steps + 1) t
@@ -149,22 +149,22 @@ no-end : (xs : List CpuTurn) (x : CpuTurn) → xs ++ x ∷ [] ≡ [] → ⊥
 no-end [] x e = cc
 no-end (y ∷ xs) x e = cc
 
-gone-by : (wanted : Wanted) (clock : TickBound) (first : State) (paths : List Path) (places : List StatePlace) (turns front : List CpuTurn) (turn : CpuTurn) (s after : State) → turns ≡ front ++ turn ∷ [] → IsAt first front turn.cpu turn.steps s
-    → LeadsSafely wanted s (event_of_choice turn.choice) after → IsKnown clock first paths places after → IsGone clock (FailsAsWanted wanted) first paths places turns
-gone-by wanted clock first paths places turns front turn s after same at made known = record {
+gone-by : (wanted : Wanted) (bounds : EventBounds) (first : State) (paths : List Path) (places : List StatePlace) (turns front : List CpuTurn) (turn : CpuTurn) (s after : State) → turns ≡ front ++ turn ∷ [] → IsAt first front turn.cpu turn.steps s
+    → LeadsSafely wanted s (event_of_choice turn.choice) after → IsKnown bounds first paths places after → IsGone bounds (FailsAsWanted wanted) first paths places turns
+gone-by wanted bounds first paths places turns front turn s after same at made known = record {
   root = λ none. absurd (no-end front turn (sym same ∙ none));
   last = λ front' turn' t same' at'.
       let both = append-ends front front' turn turn' (sym same ∙ same') in
       let there : IsAt first front' turn'.cpu turn'.steps s = subst (λ (x : CpuTurn). IsAt first front' x.cpu x.steps s) both.1 (subst (λ (xs : List CpuTurn). IsAt first xs turn.cpu turn.steps s) both.0 at) in
       let state : s ≡ t = there ∙ sym at' in
-      let stays : StaysKnown clock (FailsAsWanted wanted) first paths places s (event_of_choice turn.choice) = made-stays wanted clock first paths places s after (event_of_choice turn.choice) made known in
-      subst (λ (x : State). StaysKnown clock (FailsAsWanted wanted) first paths places x (event_of_choice turn'.choice)) state
-      (subst (λ (x : CpuTurn). StaysKnown clock (FailsAsWanted wanted) first paths places s (event_of_choice x.choice)) both.1 stays);
+      let stays : StaysKnown bounds (FailsAsWanted wanted) first paths places s (event_of_choice turn.choice) = made-stays wanted bounds first paths places s after (event_of_choice turn.choice) made known in
+      subst (λ (x : State). StaysKnown bounds (FailsAsWanted wanted) first paths places x (event_of_choice turn'.choice)) state
+      (subst (λ (x : CpuTurn). StaysKnown bounds (FailsAsWanted wanted) first paths places s (event_of_choice x.choice)) both.1 stays);
 }
 
-gone-root : (wanted : Wanted) (clock : TickBound) (first s : State) (paths : List Path) (places : List StatePlace) (turns : List CpuTurn) → turns ≡ [] → s ≡ first → IsKnown clock first paths places s → IsGone clock (FailsAsWanted wanted) first paths places turns
-gone-root wanted clock first s paths places turns none same known = record {
-  root = λ e. subst (λ (x : State). IsKnown clock first paths places x) same known;
+gone-root : (wanted : Wanted) (bounds : EventBounds) (first s : State) (paths : List Path) (places : List StatePlace) (turns : List CpuTurn) → turns ≡ [] → s ≡ first → IsKnown bounds first paths places s → IsGone bounds (FailsAsWanted wanted) first paths places turns
+gone-root wanted bounds first s paths places turns none same known = record {
+  root = λ e. subst (λ (x : State). IsKnown bounds first paths places x) same known;
   last = λ front turn t e at. absurd (no-end front turn (sym e ∙ none));
 }
 
@@ -203,7 +203,7 @@ root-leads going s none starts first starts' =
 
 pub root-gone : (going : Going) (before paths : List Path) (seen places : List StatePlace) (s : State) → going.path.now.turns.items ≡ [] → BeginsSearch going s → HasGoneOn going before paths seen places s → HasGone going before paths seen places
 root-gone going before paths seen places s none starts on = record {
-  gone = λ first starts'. gone-root going.target.wanted.now going.clock first s paths places going.path.now.turns.items none (one-boot going.target.image.now going.target.boot.now s first starts starts') (on.known first starts');
+  gone = λ first starts'. gone-root going.target.wanted.now going.bounds first s paths places going.path.now.turns.items none (one-boot going.target.image.now going.target.boot.now s first starts starts') (on.known first starts');
   explored = on.explored;
 }
 
@@ -219,7 +219,7 @@ pub turn-gone : (going : Going) (before paths : List Path) (seen places : List S
 turn-gone going before paths seen places s turned on = record {
   gone = λ first starts.
       let h = turned first starts in
-      gone-by going.target.wanted.now going.clock first paths places going.path.now.turns.items h.front h.turn h.before s h.turns h.reached h.leads (on.known first starts);
+      gone-by going.target.wanted.now going.bounds first paths places going.path.now.turns.items h.front h.turn h.before s h.turns h.reached h.leads (on.known first starts);
   explored = on.explored;
 }
 

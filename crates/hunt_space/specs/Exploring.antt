@@ -20,7 +20,7 @@ use Rattle.hunt_space.specs.Runs.{MayCome}
 use Rattle.hunt_space.specs.Space.{AreAllPaths, CallsNone, HasPath, IsUndebugged, SparesText, with_turn}
 use Rattle.hunt_space.specs.declared.attempt.Attempt.{Attempt}
 use Rattle.hunt_space.specs.declared.attempt.Attempt.TheVariants.{Harmless, Fails, Refused}
-use Rattle.hunt_space.specs.declared.clock.TickBound.{TickBound}
+use Rattle.hunt_space.specs.declared.bounds.EventBounds.{EventBounds}
 use Rattle.hunt_space.specs.declared.path.Path.{Path}
 
 -- the path that makes a choice behind some steps of another is among the paths
@@ -50,14 +50,14 @@ ComesOfAttempt wanted before event after (Fails failure) = HasFailed wanted.line
 ComesOfAttempt wanted before event after Refused = ⊤
 
 -- all is done at a state of a path, but the step of the path's own processor
-pub record IsOpened (low high : ℕ) (clock : TickBound) (May : State → Event → Type 0) (paths : List Path) (turns : List CpuTurn) (cpu steps : ℕ) (s : State) : Type 0 where
+pub record IsOpened (low high : ℕ) (bounds : EventBounds) (May : State → Event → Type 0) (paths : List Path) (turns : List CpuTurn) (cpu steps : ℕ) (s : State) : Type 0 where
   pub forks : AreAllPaths May paths turns cpu steps s
-  pub calls : (event : Event) → May s event → CallsNone clock event s
+  pub calls : (event : Event) → May s event → CallsNone bounds.ticks event s
   pub spares : SparesText low high May s
   pub undebugged : IsUndebugged s
 
 -- why a path ends: its last step made the machine fail, or its processor can't step; a refused step cuts the search
-abbrev pub EndsPath : Wanted → TickBound → ℕ → Bool → State → State → RunOutcome → Type 0
-EndsPath wanted clock cpu cut before after (Failed failure) = HasFailed wanted.lines failure after
-EndsPath wanted clock cpu cut before after Over = MayCome wanted.lines clock before (Step cpu) → ⊥
-EndsPath wanted clock cpu cut before after Full = cut ≡ true
+abbrev pub EndsPath : Wanted → EventBounds → ℕ → Bool → State → State → RunOutcome → Type 0
+EndsPath wanted bounds cpu cut before after (Failed failure) = HasFailed wanted.lines failure after
+EndsPath wanted bounds cpu cut before after Over = MayCome wanted.lines bounds before (Step cpu) → ⊥
+EndsPath wanted bounds cpu cut before after Full = cut ≡ true

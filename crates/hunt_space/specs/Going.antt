@@ -24,7 +24,7 @@ abbrev pub BeginsSearch : Going → State → Type 0
 BeginsSearch going first = Begins going.target.image.now going.target.boot.now first
 
 abbrev pub MayGo : Going → State → Event → Type 0
-MayGo going = MayCome going.target.wanted.now.lines going.clock
+MayGo going = MayCome going.target.wanted.now.lines going.bounds
 
 -- the path has its number among the paths
 abbrev pub IsNumbered : Going → List Path → Type 0
@@ -52,7 +52,7 @@ ComesOfTurn going s Refused = ⊤
 -- ---- what is done
 -- a state is known
 abbrev pub Knows : Going → List Path → List StatePlace → State → Type 0
-Knows going paths places s = (first : State) → BeginsSearch going first → IsKnown going.clock first paths places s
+Knows going paths places s = (first : State) → BeginsSearch going first → IsKnown going.bounds first paths places s
 
 -- what came of a visit of the state that some steps lead to
 abbrev pub ComesOfVisit : Going → Bool → List Path → List StatePlace → List StatePlace → ℕ → State → Arrival → Type 0
@@ -62,11 +62,11 @@ ComesOfVisit going cut paths places after steps s Cut = cut ≡ true
 
 -- all is done at the state that some steps lead to, but the step of the path's own processor
 abbrev pub Opens : Going → List Path → ℕ → State → Type 0
-Opens going paths steps s = IsOpened going.text.low going.text.high going.clock (MayGo going) paths going.path.now.turns.items going.path.now.cpu steps s
+Opens going paths steps s = IsOpened going.text.low going.text.high going.bounds (MayGo going) paths going.path.now.turns.items going.path.now.cpu steps s
 
 -- the first n places are explored or passed
 abbrev pub HasExplored : Going → State → List Path → List StatePlace → ℕ → Type 0
-HasExplored going first paths places n = AreExplored going.text.low going.text.high going.clock (MayGo going) (FailsAsWanted going.target.wanted.now) first paths places n
+HasExplored going first paths places n = AreExplored going.text.low going.text.high going.bounds (MayGo going) (FailsAsWanted going.target.wanted.now) first paths places n
 
 -- if all places were, all are
 abbrev pub StaysExplored : Going → List Path → List Path → List StatePlace → List StatePlace → Type 0
@@ -79,5 +79,5 @@ pub record HasGoneOn (going : Going) (before paths : List Path) (seen places : L
 
 -- the path was gone
 pub record HasGone (going : Going) (before paths : List Path) (seen places : List StatePlace) : Type 0 where
-  pub gone : (first : State) → BeginsSearch going first → IsGone going.clock (FailsAsWanted going.target.wanted.now) first paths places going.path.now.turns.items
+  pub gone : (first : State) → BeginsSearch going first → IsGone going.bounds (FailsAsWanted going.target.wanted.now) first paths places going.path.now.turns.items
   pub explored : StaysExplored going before paths seen places

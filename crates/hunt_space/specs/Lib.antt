@@ -1,4 +1,5 @@
 pub mod Alike
+pub mod Raises
 pub mod Complete
 pub mod Demoting
 pub mod Runs

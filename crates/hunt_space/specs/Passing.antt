@@ -12,7 +12,7 @@ use Rattle.hunt_failures.specs.Failures.{FailsAsWanted}
 use Rattle.hunt_space.specs.Going.{HasExplored, Knows, BeginsSearch}
 use Rattle.hunt_space.specs.Runs.{MayCome}
 use Rattle.hunt_space.specs.Space.{AreExplored, GoesPrivately, IsAt, IsPathAt, IsUndebugged}
-use Rattle.hunt_space.specs.declared.clock.TickBound.{TickBound}
+use Rattle.hunt_space.specs.declared.bounds.EventBounds.{EventBounds}
 use Rattle.hunt_space.specs.declared.going.Going.{Going}
 use Rattle.hunt_space.specs.declared.path.Path.{Path}
 use Rattle.hunt_space.specs.declared.visited.StatePlace.{StatePlace}
@@ -38,19 +38,19 @@ ComesOfRow going steps s t places after false = (t ≡ s) × (after ≡ places)
 
 -- ---- a path under way
 -- all is done at each place but the last, which is that of this state
-pub record IsUnderWay (low high : ℕ) (wanted : Wanted) (clock : TickBound) (first : State) (paths : List Path) (places : List StatePlace) (number : ℕ) (turns : List CpuTurn) (cpu steps : ℕ) (s : State) : Type 0 where
+pub record IsUnderWay (low high : ℕ) (wanted : Wanted) (bounds : EventBounds) (first : State) (paths : List Path) (places : List StatePlace) (number : ℕ) (turns : List CpuTurn) (cpu steps : ℕ) (s : State) : Type 0 where
   pub count : ℕ
   pub counted : length places ≡ suc count
   pub last : slice_get places count ≡ Some (record { path = number; steps = steps })
   pub path : IsPathAt paths number turns cpu
   pub at : IsAt first turns cpu steps s
-  pub done : AreExplored low high clock (MayCome wanted.lines clock) (FailsAsWanted wanted) first paths places count
+  pub done : AreExplored low high bounds (MayCome wanted.lines bounds) (FailsAsWanted wanted) first paths places count
 
 -- the state that some steps lead to was visited, and has the last place; the others are explored or passed
 pub record IsVisiting (going : Going) (before paths : List Path) (seen places : List StatePlace) (steps : ℕ) (begun s : State) : Type 0 where
   pub known : Knows going paths places begun
   pub way : (first : State) → BeginsSearch going first → HasExplored going first before seen (length seen)
-      → IsUnderWay going.text.low going.text.high going.target.wanted.now going.clock first paths places going.number going.path.now.turns.items going.path.now.cpu steps s
+      → IsUnderWay going.text.low going.text.high going.target.wanted.now going.bounds first paths places going.number going.path.now.turns.items going.path.now.cpu steps s
 
 -- the path goes on from a state that has the last place to another
 abbrev pub PassesRows : Going → List StatePlace → List StatePlace → ℕ → ℕ → State → State → Type 0

@@ -11,20 +11,22 @@ use Rattle.hunt_failures.specs.declared.wanted.Wanted.{Wanted}
 use Rattle.hunt_schedules.specs.Beginning.{Begins}
 use Rattle.hunt_schedules.specs.Making.{MayMake}
 use Rattle.hunt_schedules.specs.Schedules.{Behind, NoneFails}
-use Rattle.hunt_space.specs.declared.clock.TickBound.{TickBound}
-use Rattle.hunt_space.specs.declared.clock.TickBound.TheVariants.{AtMost, Free}
+use Rattle.hunt_space.specs.Raises.{raise_count}
+use Rattle.hunt_space.specs.declared.bounds.Bound.{Bound}
+use Rattle.hunt_space.specs.declared.bounds.Bound.TheVariants.{AtMost, Free}
+use Rattle.hunt_space.specs.declared.bounds.EventBounds.{EventBounds}
 
--- a tick may come behind this number of ticks
-abbrev pub MayTick : TickBound → ℕ → Type 0
-MayTick (AtMost most) ticks = ticks < most
-MayTick Free ticks = ⊤
+-- one more may come behind a number of them
+abbrev pub MayHaveMore : Bound → ℕ → Type 0
+MayHaveMore (AtMost most) count = count < most
+MayHaveMore Free count = ⊤
 
--- a schedule that raises these lines may make an event at a state
-abbrev pub MayCome : List ℕ → TickBound → State → Event → Type 0
-MayCome lines clock s (Step c) = MayMake lines s (Step c)
-MayCome lines clock s Tick = MayMake lines s Tick × MayTick clock s.board.parts.ticks
-MayCome lines clock s (Raise c line) = MayMake lines s (Raise c line)
-MayCome lines clock s _ = ⊥
+-- a schedule that raises these lines, within bounds of its ticks and raises, may make an event at a state
+abbrev pub MayCome : List ℕ → EventBounds → State → Event → Type 0
+MayCome lines bounds s (Step c) = MayMake lines s (Step c)
+MayCome lines bounds s Tick = MayMake lines s Tick × MayHaveMore bounds.ticks s.board.parts.ticks
+MayCome lines bounds s (Raise c line) = MayMake lines s (Raise c line) × MayHaveMore bounds.raises (raise_count s.journal)
+MayCome lines bounds s _ = ⊥
 
 -- events that may come, one after the other, and that are accepted
 abbrev pub IsAnySchedule : (State → Event → Type 0) → State → List Event → Type 0
@@ -36,6 +38,6 @@ abbrev pub with_capacity : ℕ → Boot → Boot
 with_capacity capacity boot = record boot { capacity = capacity }
 
 -- from the boot with an image no schedule of any length fails in a way that is looked for, whatever the capacity of the journal
-abbrev pub NeverFailsAtAll : Contents → Boot → Wanted → TickBound → Type 0
-NeverFailsAtAll image boot wanted clock =
-    (capacity : ℕ) (first : State) (events : List Event) → Begins image (with_capacity capacity boot) first → IsAnySchedule (MayCome wanted.lines clock) first events → NoneFails (FailsAsWanted wanted) first events
+abbrev pub NeverFailsAtAll : Contents → Boot → Wanted → EventBounds → Type 0
+NeverFailsAtAll image boot wanted bounds =
+    (capacity : ℕ) (first : State) (events : List Event) → Begins image (with_capacity capacity boot) first → IsAnySchedule (MayCome wanted.lines bounds) first events → NoneFails (FailsAsWanted wanted) first events

@@ -43,8 +43,8 @@ fn fork(
     let choices = Choices {
         awake,
         cpus: machine.cpu_count(),
-        lines: going.target.wanted.lines,
-        tick: going.clock.ticks(machine),
+        lines: going.bounds.lines(machine, going.target.wanted.lines),
+        tick: going.bounds.may_tick(machine),
     };
     match frontier.fork_all(&from, &choices) {
         Ok(()) => Ok(()),
@@ -63,9 +63,9 @@ fn calls_clock(
     ensures paths { frontier.new.paths.items ≡ frontier.old.paths.items }
     ensures cut { frontier.new.cut ≡ false → frontier.old.cut ≡ false }
     ensures called { result ≡ true → frontier.new.cut ≡ true }
-    ensures calls { result ≡ false → (event : Event) → MayGo going.now machine.now event → CallsNone going.now.clock event machine.now }
+    ensures calls { result ≡ false → (event : Event) → MayGo going.now machine.now event → CallsNone going.now.bounds.ticks event machine.now }
 {
-    match going.clock.caller(machine, awake) {
+    match going.bounds.caller(machine, awake) {
         Some(cpu) => {
             frontier.cut = true;
             frontier.note_clock(machine, cpu);
@@ -141,7 +141,7 @@ fn step_on(
     requires { (c : ℕ) → IsAwake c machine.old → (i : ℕ) × (slice_get awake.now i ≡ Option.Some c) }
     ensures paths { frontier.new.paths.items ≡ frontier.old.paths.items }
     ensures cut { frontier.new.cut ≡ false → frontier.old.cut ≡ false }
-    ensures moved { MatchOption result (LeadsSafely going.now.target.wanted.now machine.old (EventOf.Step going.now.path.now.cpu) machine.new) (λ outcome. EndsPath going.now.target.wanted.now going.now.clock going.now.path.now.cpu frontier.new.cut machine.old machine.new outcome) }
+    ensures moved { MatchOption result (LeadsSafely going.now.target.wanted.now machine.old (EventOf.Step going.now.path.now.cpu) machine.new) (λ outcome. EndsPath going.now.target.wanted.now going.now.bounds going.now.path.now.cpu frontier.new.cut machine.old machine.new outcome) }
     ensures replays { (first : State) → IsReplayOf first machine.old → IsReplayOf first machine.new }
 {
     let cpu = going.path.cpu;
@@ -174,7 +174,7 @@ pub(crate) fn explore(
     ensures keeps { KeepsPaths frontier.old.paths.items frontier.new.paths.items }
     ensures cut { frontier.new.cut ≡ false → frontier.old.cut ≡ false }
     ensures opens { OnOk result (frontier.new.cut ≡ false → Opens going.now frontier.new.paths.items steps machine.old) }
-    ensures moved { IfOk result (λ ended. MatchOption ended (LeadsSafely going.now.target.wanted.now machine.old (EventOf.Step going.now.path.now.cpu) machine.new) (λ outcome. EndsPath going.now.target.wanted.now going.now.clock going.now.path.now.cpu frontier.new.cut machine.old machine.new outcome)) }
+    ensures moved { IfOk result (λ ended. MatchOption ended (LeadsSafely going.now.target.wanted.now machine.old (EventOf.Step going.now.path.now.cpu) machine.new) (λ outcome. EndsPath going.now.target.wanted.now going.now.bounds going.now.path.now.cpu frontier.new.cut machine.old machine.new outcome)) }
     ensures replays { (first : State) → IsReplayOf first machine.old → IsReplayOf first machine.new }
 {
     let awake = awake_processors(machine);

@@ -1,6 +1,6 @@
 //! The path that a search goes, and what it counts.
 
-use crate::clock::TickBound;
+use crate::bounds::EventBounds;
 use crate::path::Path;
 use crate::reached::ReachedText;
 use crate::text::TextSpan;
@@ -12,8 +12,8 @@ use hunt_states::Trail;
 #[derive(Clone, Copy)]
 pub(crate) struct Going<'a> {
     pub(crate) target: Target<'a>,
-    /// Which ticks may come.
-    pub(crate) clock: TickBound,
+    /// How many ticks and raises may come.
+    pub(crate) bounds: EventBounds,
     /// Where private rows are taken from.
     pub(crate) text: TextSpan,
     pub(crate) path: &'a Path,

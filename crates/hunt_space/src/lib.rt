@@ -3,7 +3,7 @@
 #![tactic(auto)]
 
 mod attempt;
-mod clock;
+mod bounds;
 mod exploring;
 mod frontier;
 mod going;
@@ -25,7 +25,7 @@ mod walking;
 ghost use Rattle.hunt_space.specs.Complete.{SearchesAreComplete, SearchesWithoutWatchdog};
 
 pub use attempt::Attempt;
-pub use clock::TickBound;
+pub use bounds::{Bound, EventBounds};
 pub use frontier::Frontier;
 pub use path::Path;
 pub use reached::{Gap, ReachedText};

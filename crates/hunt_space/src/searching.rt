@@ -12,7 +12,7 @@ ghost use Rattle.hunt_space.specs.Searched.{IsSpaceSearched};
 ghost use Rattle.hunt_space.specs.Space.{KeepsPaths, KeepsPlaces};
 ghost use Rattle.hunt_space.specs.Standing.{AreStanding, BeginsAfresh, IsStanding};
 
-use crate::clock::TickBound;
+use crate::bounds::EventBounds;
 use crate::frontier::Frontier;
 use crate::going::{Going, Tally};
 use crate::path::Path;
@@ -27,8 +27,8 @@ use hunt_search::{HuntRun, Onlooker, Report, Target, note};
 /// What bounds a search.
 #[derive(Clone, Copy, Debug)]
 pub struct SpaceBounds {
-    /// Which ticks may come.
-    pub clock: TickBound,
+    /// How many ticks and raises may come.
+    pub events: EventBounds,
     /// The most states that are visited, below 2^31.
     pub states: u32,
 }
@@ -50,10 +50,10 @@ pub struct SpaceReport {
     pub text: ReachedText,
 }
 
-// Which ticks may come, where private rows are taken from, and the machine that has had no event.
+// How many ticks and raises may come, where private rows are taken from, and the machine that has had no event.
 #[derive(Clone, Copy)]
 struct Scope<'a> {
-    clock: TickBound,
+    bounds: EventBounds,
     text: TextSpan,
     first: &'a Machine<AnyDevice>,
 }
@@ -156,7 +156,7 @@ fn go_paths<O: Onlooker>(
     requires root { (root : Path) × (search.old.frontier.paths.items ≡ root ∷ []) × (root.turns.items ≡ []) }
     requires none { search.old.visited.places.items ≡ [] }
     ensures found { OnOk result (AreFound target.now.image.now target.now.boot.now target.now.wanted.now.lines report.new.rows.items) }
-    ensures searched { IfOk result (λ count. report.new.rows.items ≡ [] → search.new.frontier.cut ≡ false → IsSpaceSearched target.now.image.now target.now.boot.now target.now.wanted.now scope.now.clock search.new.frontier.paths.items search.new.visited.places.items count) }
+    ensures searched { IfOk result (λ count. report.new.rows.items ≡ [] → search.new.frontier.cut ≡ false → IsSpaceSearched target.now.image.now target.now.boot.now target.now.wanted.now scope.now.bounds search.new.frontier.paths.items search.new.visited.places.items count) }
 {
     'paths: for number in 0..u32::MAX {
         if search.frontier.hit {
@@ -175,7 +175,7 @@ fn go_paths<O: Onlooker>(
         };
         let going = Going {
             target: *target,
-            clock: scope.clock,
+            bounds: scope.bounds,
             text: scope.text,
             path: &path,
             number,
@@ -293,7 +293,7 @@ fn search_text<O: Onlooker>(
     requires guarded { target.now.wanted.now.demotion ≡ true → 0 < text.high → target.now.boot.now.watchdog ≡ 0 }
     requires found { AreFound target.now.image.now target.now.boot.now target.now.wanted.now.lines report.old.rows.items }
     ensures found { OnOk result (AreFound target.now.image.now target.now.boot.now target.now.wanted.now.lines report.new.rows.items) }
-    ensures searched { IfOk result (λ gone. report.new.rows.items ≡ [] → gone.search.frontier.cut ≡ false → IsSpaceSearched target.now.image.now target.now.boot.now target.now.wanted.now bounds.now.clock gone.search.frontier.paths.items gone.search.visited.places.items gone.count) }
+    ensures searched { IfOk result (λ gone. report.new.rows.items ≡ [] → gone.search.frontier.cut ≡ false → IsSpaceSearched target.now.image.now target.now.boot.now target.now.wanted.now bounds.now.events gone.search.frontier.paths.items gone.search.visited.places.items gone.count) }
 {
     let mut search = match begun(target, bounds.states) {
         Ok(search) => search,
@@ -304,7 +304,7 @@ fn search_text<O: Onlooker>(
         Err(stop) => return Err(stop),
     };
     let scope = Scope {
-        clock: bounds.clock,
+        bounds: bounds.events,
         text,
         first: &first,
     };
@@ -323,7 +323,7 @@ fn search_all<O: Onlooker>(
 ) -> Result<Gone, HuntStop>
     requires found { AreFound target.now.image.now target.now.boot.now target.now.wanted.now.lines report.old.rows.items }
     ensures found { OnOk result (AreFound target.now.image.now target.now.boot.now target.now.wanted.now.lines report.new.rows.items) }
-    ensures searched { IfOk result (λ gone. report.new.rows.items ≡ [] → gone.search.frontier.cut ≡ false → IsSpaceSearched target.now.image.now target.now.boot.now target.now.wanted.now bounds.now.clock gone.search.frontier.paths.items gone.search.visited.places.items gone.count) }
+    ensures searched { IfOk result (λ gone. report.new.rows.items ≡ [] → gone.search.frontier.cut ≡ false → IsSpaceSearched target.now.image.now target.now.boot.now target.now.wanted.now bounds.now.events gone.search.frontier.paths.items gone.search.visited.places.items gone.count) }
 {
     let gone = match search_text(target, bounds, TextSpan::of(target), report, onlooker) {
         Ok(gone) => gone,
@@ -353,7 +353,7 @@ pub fn hunt_space<O: Onlooker>(
     // each failure is one of a machine that was booted with the image
     ensures found { IfOk result (λ found. AreFound target.now.image.now target.now.boot.now target.now.wanted.now.lines found.report.rows.items) }
     // if it has found none and wasn't cut, no schedule fails, however long it is
-    ensures complete { IfOk result (λ found. found.report.rows.items ≡ [] → found.report.cut ≡ false → NeverFailsAtAll target.now.image.now target.now.boot.now target.now.wanted.now bounds.now.clock) }
+    ensures complete { IfOk result (λ found. found.report.rows.items ≡ [] → found.report.cut ≡ false → NeverFailsAtAll target.now.image.now target.now.boot.now target.now.wanted.now bounds.now.events) }
 {
     let mut report = Report::new(target.alloc, false);
     let gone = match search_all(target, bounds, &mut report, onlooker) {

@@ -36,10 +36,10 @@ fn covers(
 ) -> Result<bool, HuntStop>
     requires first { BeginsAfresh going.now }
     requires stands { IsStanding going.now.first.now seen.old }
-    requires fits { FitsClock going.now.clock position.now.machine.now }
+    requires fits { FitsClock going.now.bounds.ticks position.now.machine.now }
     requires at { LeadsTo going.now position.now.steps position.now.machine.now }
     ensures stands { IfOk result (λ covered. IsStanding going.now.first.now seen.new) }
-    ensures alike { IfOk result (λ covered. covered ≡ true → (first : State) → BeginsSearch going.now first → HasAlikeAt going.now.clock first frontier.now.paths.items place position.now.machine.now) }
+    ensures alike { IfOk result (λ covered. covered ≡ true → (first : State) → BeginsSearch going.now first → HasAlikeAt going.now.bounds first frontier.now.paths.items place position.now.machine.now) }
 {
     let Some(path) = frontier.paths.get(place.path as usize) else {
         return Ok(false);
@@ -48,7 +48,7 @@ fn covers(
         Ok(()) => {}
         Err(stop) => return Err(stop),
     }
-    Ok(going.clock.compare(&seen.machine, position.machine))
+    Ok(going.bounds.compare(&seen.machine, position.machine))
 }
 
 // Whether a state that was visited is alike to that of a machine: one of its hash.
@@ -61,7 +61,7 @@ fn is_covered(
 ) -> Result<bool, HuntStop>
     requires first { BeginsAfresh going.now }
     requires stands { IsStanding going.now.first.now visited.old.seen }
-    requires fits { FitsClock going.now.clock position.now.machine.now }
+    requires fits { FitsClock going.now.bounds.ticks position.now.machine.now }
     requires at { LeadsTo going.now position.now.steps position.now.machine.now }
     ensures same { visited.new.places.items ≡ visited.old.places.items }
     ensures stands { IfOk result (λ covered. IsStanding going.now.first.now visited.new.seen) }
@@ -95,13 +95,13 @@ fn enter(
     requires first { BeginsAfresh going.now }
     requires stands { IsStanding going.now.first.now visited.old.seen }
     requires there { IsNumbered going.now frontier.now.paths.items }
-    requires fits { FitsClock going.now.clock position.now.machine.now }
+    requires fits { FitsClock going.now.bounds.ticks position.now.machine.now }
     requires at { LeadsTo going.now position.now.steps position.now.machine.now }
     ensures keeps { KeepsPlaces visited.old.places.items visited.new.places.items }
     ensures stands { IfOk result (λ arrival. IsStanding going.now.first.now visited.new.seen) }
     ensures comes { IfOk result (λ arrival. ComesOfVisit going.now frontier.now.cut frontier.now.paths.items visited.old.places.items visited.new.places.items position.now.steps position.now.machine.now arrival) }
 {
-    let hash = going.clock.hash(position.machine, &position.trail);
+    let hash = going.bounds.hash(position.machine, &position.trail);
     match is_covered(going, position, hash, frontier, visited) {
         Ok(true) => return Ok(Arrival::Again),
         Ok(false) => {}
@@ -120,12 +120,12 @@ fn enter(
 
 // Whether a state may be visited: there may be one more, and no time is named where any number of ticks may come.
 fn may_visit(going: &Going<'_>, machine: &Machine<AnyDevice>, visited: &Visited) -> bool
-    ensures { result ≡ true → FitsClock going.now.clock machine.now }
+    ensures { result ≡ true → FitsClock going.now.bounds.ticks machine.now }
 {
     if visited.is_full() {
         return false;
     }
-    going.clock.fits(machine)
+    going.bounds.fits(machine)
 }
 
 /// Visits a state, unless one that was visited is alike, or the search is cut there.
@@ -167,5 +167,5 @@ pub(crate) fn mark(going: &Going<'_>, position: &Position<'_>, from: u32, visite
     if position.steps == from {
         return;
     }
-    visited.mark(going.clock.hash(position.machine, &position.trail));
+    visited.mark(going.bounds.hash(position.machine, &position.trail));
 }

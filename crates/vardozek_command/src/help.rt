@@ -131,7 +131,7 @@ their bound. With --all B a switch is a step of another processor than the one t
 tick or a raise, and a schedule's number takes the place of a seed; --runs bounds the schedules.
 With --all alone each event that may come is made at each state, up to states that are alike one
 that was visited. If the last line doesn't end with cut, and no failure is printed, no schedule
-fails, however long it is, of any number of ticks or of at most --ticks N.
+fails, however long it is, of any number of ticks and raises or of at most --ticks N and --raises N.
 
 Statuses: 0 none found, 1 one found, 2 wrong words, 3 no image, 4 a file can't be read or written
 

@@ -379,6 +379,12 @@ pub(crate) const HUNT: Word = Word {
             excludes: &["runs"],
         },
         Choice {
+            name: "raises",
+            value: Value::Number("N", 0, 1_000_000),
+            help: "Raises of a schedule at most, with --all without B [default: any number]",
+            excludes: &["runs"],
+        },
+        Choice {
             name: "states",
             value: Value::Number("N", 1, 100_000_000),
             help: "States at most, with --all without B [default: 1000000]",

@@ -16,7 +16,7 @@ paths-init g c = record {
   boots = inl refl;
   within = omega arith;
   guarded = c.requires.guarded;
-  searched = λ empty uncut first begins. none-searched c.args.scope.now.text.low c.args.scope.now.text.high c.args.target.now.wanted.now c.args.scope.now.clock first c.args.search.now.frontier.paths.items c.args.search.now.visited.places.items c.requires.none;
+  searched = λ empty uncut first begins. none-searched c.args.scope.now.text.low c.args.scope.now.text.high c.args.target.now.wanted.now c.args.scope.now.bounds first c.args.search.now.frontier.paths.items c.args.search.now.visited.places.items c.requires.none;
 }
 
 pub paths-preserved : goal.paths-preserved
@@ -37,7 +37,7 @@ paths-preserved g c =
       guarded = all.guarded;
       searched = λ empty uncut first begins.
           let gone = c.in-Ok-true.ensures.goes empty uncut in
-          searched-more c.args.scope.now.text.low c.args.scope.now.text.high c.args.target.now.wanted.now c.args.scope.now.clock first paths paths' c.paths.search.visited.places.items c.look.new.search.visited.places.items c.paths.number turns cpu
+          searched-more c.args.scope.now.text.low c.args.scope.now.text.high c.args.target.now.wanted.now c.args.scope.now.bounds first paths paths' c.paths.search.visited.places.items c.look.new.search.visited.places.items c.paths.number turns cpu
           c.look.ensures.keeps_paths c.look.ensures.keeps_places all.within (path-still paths paths' c.paths.number turns cpu c.look.ensures.keeps_paths here) (gone.explored first begins) (gone.gone first begins)
           (all.searched (c.in-Ok-true.ensures.rows empty) (c.look.ensures.cut uncut) first begins);
     }
@@ -45,25 +45,25 @@ paths-preserved g c =
 pub returns-then-not-goes_on-clause-searched : goal.returns-then-not-goes_on-clause-searched
 returns-then-not-goes_on-clause-searched g c empty uncut =
     let all = c.paths.invariant in
-    searched-so-far c.args.scope.now.text.low c.args.scope.now.text.high c.args.target.now.image.now c.args.target.now.boot.now c.args.target.now.wanted.now c.args.scope.now.clock c.paths.search.frontier.paths.items c.paths.search.visited.places.items c.paths.number
+    searched-so-far c.args.scope.now.text.low c.args.scope.now.text.high c.args.target.now.image.now c.args.target.now.boot.now c.args.target.now.wanted.now c.args.scope.now.bounds c.paths.search.frontier.paths.items c.paths.search.visited.places.items c.paths.number
     all.guarded all.root all.boots (all.searched empty uncut)
 
 pub returns-then-search-clause-searched : goal.returns-then-search-clause-searched
 returns-then-search-clause-searched g c empty uncut =
     let all = c.paths.invariant in
-    searched-so-far c.args.scope.now.text.low c.args.scope.now.text.high c.args.target.now.image.now c.args.target.now.boot.now c.args.target.now.wanted.now c.args.scope.now.clock c.paths.search.frontier.paths.items c.paths.search.visited.places.items c.paths.number
+    searched-so-far c.args.scope.now.text.low c.args.scope.now.text.high c.args.target.now.image.now c.args.target.now.boot.now c.args.target.now.wanted.now c.args.scope.now.bounds c.paths.search.frontier.paths.items c.paths.search.visited.places.items c.paths.number
     all.guarded all.root all.boots (all.searched empty uncut)
 
 pub returns-in-Ok-None-clause-searched : goal.returns-in-Ok-None-clause-searched
 returns-in-Ok-None-clause-searched g c empty uncut =
     let all = c.paths.invariant in
-    searched-so-far c.args.scope.now.text.low c.args.scope.now.text.high c.args.target.now.image.now c.args.target.now.boot.now c.args.target.now.wanted.now c.args.scope.now.clock c.paths.search.frontier.paths.items c.paths.search.visited.places.items c.paths.number
+    searched-so-far c.args.scope.now.text.low c.args.scope.now.text.high c.args.target.now.image.now c.args.target.now.boot.now c.args.target.now.wanted.now c.args.scope.now.bounds c.paths.search.frontier.paths.items c.paths.search.visited.places.items c.paths.number
     all.guarded all.root all.boots (all.searched empty uncut)
 
 pub returns-clause-searched : goal.returns-clause-searched
 returns-clause-searched g c empty uncut =
     let all = c.paths.invariant in
     let last : c.paths.number ≡ 4294967295 = omega arith in
-    subst (λ (n : ℕ). IsSpaceSearched c.args.target.now.image.now c.args.target.now.boot.now c.args.target.now.wanted.now c.args.scope.now.clock c.paths.search.frontier.paths.items c.paths.search.visited.places.items n) last
-    (searched-so-far c.args.scope.now.text.low c.args.scope.now.text.high c.args.target.now.image.now c.args.target.now.boot.now c.args.target.now.wanted.now c.args.scope.now.clock c.paths.search.frontier.paths.items c.paths.search.visited.places.items c.paths.number
+    subst (λ (n : ℕ). IsSpaceSearched c.args.target.now.image.now c.args.target.now.boot.now c.args.target.now.wanted.now c.args.scope.now.bounds c.paths.search.frontier.paths.items c.paths.search.visited.places.items n) last
+    (searched-so-far c.args.scope.now.text.low c.args.scope.now.text.high c.args.target.now.image.now c.args.target.now.boot.now c.args.target.now.wanted.now c.args.scope.now.bounds c.paths.search.frontier.paths.items c.paths.search.visited.places.items c.paths.number
     all.guarded all.root all.boots (all.searched empty uncut))

@@ -21,5 +21,5 @@ invariant-paths g l = record {
   within : l.number ≤ length l.search.frontier.paths.items;
   guarded : l.target.wanted.now.demotion ≡ true → 0 < l.scope.text.high → l.target.boot.now.watchdog ≡ 0;
   searched : l.report.rows.items ≡ [] → l.search.frontier.cut ≡ false → (first : State) → Begins l.target.image.now l.target.boot.now first
-      → IsSearchedFrom l.scope.text.low l.scope.text.high l.target.wanted.now l.scope.clock first l.search.frontier.paths.items l.search.visited.places.items l.number;
+      → IsSearchedFrom l.scope.text.low l.scope.text.high l.target.wanted.now l.scope.bounds first l.search.frontier.paths.items l.search.visited.places.items l.number;
 }

@@ -7,7 +7,7 @@ pub returns-clause-complete : goal.returns-clause-complete
 returns-clause-complete g c empty uncut =
     let known = c.told.ensures.cut uncut in
     let same : c.search_all.new.report.rows.items ≡ [] = subst (λ rows. rows.items ≡ []) c.told.ensures.rows empty in
-    completes c.args.target.now.image.now c.args.target.now.boot.now c.args.target.now.wanted.now c.args.bounds.now.clock c.in-Ok.gone.search.frontier.paths.items c.in-Ok.gone.search.visited.places.items c.in-Ok.gone.count
+    completes c.args.target.now.image.now c.args.target.now.boot.now c.args.target.now.wanted.now c.args.bounds.now.events c.in-Ok.gone.search.frontier.paths.items c.in-Ok.gone.search.visited.places.items c.in-Ok.gone.count
     (c.in-Ok.ensures.searched same known.0) known.1
 
 pub returns-clause-found : goal.returns-clause-found

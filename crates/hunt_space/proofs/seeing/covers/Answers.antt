@@ -24,5 +24,6 @@ returns-clause-alike c same first begins =
       seen = seen;
       path = (path, subst (λ (paths : List Path). slice_get paths c.args.place.path ≡ Some path) c.deref.ensures.value there, refl, refl);
       reached = reached;
-      alike = c.compare.ensures same kinds;
+      alike = (c.compare.ensures same kinds).0;
+      raised = (c.compare.ensures same kinds).1;
     }

@@ -3,11 +3,11 @@ use Rattle.std.specs.Prelude.{slice_get}
 use Rattle.std.proofs.lemmas.Option.{slice_get_within, get_or_from_slice_get}
 use Rattle.evm_model.specs.declared.event.Event.TheVariants.{Step}
 use Rattle.hunt_space.specs.Space.{CallsNone}
-use Rattle.hunt_space.proofs.clock.TickBound.caller.Goals as goal
+use Rattle.hunt_space.proofs.bounds.EventBounds.caller.Goals as goal
 
 pub cpus-preserved : goal.cpus-preserved
 cpus-preserved c =
-    let Q : ℕ → Type 0 = λ n. CallsNone c.args.self (Step n) c.args.machine.now in
+    let Q : ℕ → Type 0 = λ n. CallsNone c.args.self.ticks (Step n) c.args.machine.now in
     let P : ℕ → Type 0 = λ i. (d : ℕ) → slice_get c.args.cpus.now i ≡ Some d → Q d in
     let none : c.is_called.result ≡ false = search rules in
     let here : P c.cpus.cpu-index = λ d there. subst Q (get_or_from_slice_get c.args.cpus.now c.cpus.cpu-index d 0 there) (c.is_called.ensures none) in
