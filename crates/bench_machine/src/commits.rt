@@ -8,7 +8,7 @@ use evm_core::{Burst, Committed, Event, Machine};
 use evm_devs::Pins;
 use evm_elf::{read_image, write_bytes};
 use evm_exec::Hart;
-use evm_shared::{Blanks, Origin, Port, Shared};
+use evm_shared::{BlankHistory, Blanks, Origin, Port, Shared};
 use std::alloc::Global;
 use std::marker::Brand;
 use std::sync::Wait;
@@ -44,6 +44,7 @@ pub(crate) fn blanks(ports: u8) -> Blanks
         steps: Blank::new(u64::from(ports)),
         bells: Blank::new(u64::from(ports)),
         others: Blank::new(u64::from(ports)),
+        history: BlankHistory::new(),
     }
 }
 
@@ -51,7 +52,7 @@ pub(crate) fn blanks(ports: u8) -> Blanks
 pub(crate) fn commit_many<O: Origin, S: Ledger, B: Ledger, T: Ledger, R: Wait>(
     rt: &R,
     shared: &Shared<Pins, O, S, B, T>,
-    port: &mut Port<S, B, T>,
+    port: &mut Port<O, S, B, T>,
     count: u32,
 ) {
     let burst = Burst::empty(Hart::default());
@@ -80,6 +81,8 @@ fn commit_by<
 ) -> Option<u64>
     requires replays { IsReplayOf O.start machine }
     requires base { kind_counts machine.journal ≡ O.base }
+    requires machine { machine ≡ O.machine }
+    requires history { blanks.history ≡ O.book }
     requires steps { (blanks.steps.name ≡ S.name) × (blanks.steps.parts ≡ S.parts) × (S.parts ≡ ports) }
     requires bells { (blanks.bells.name ≡ B.name) × (blanks.bells.parts ≡ B.parts) × (B.parts ≡ ports) }
     requires others { (blanks.others.name ≡ T.name) × (blanks.others.parts ≡ T.parts) × (T.parts ≡ ports) }
@@ -95,7 +98,7 @@ fn commit_by<
         rt,
         made.as_mut_slice(),
         places,
-        &|_, port: &mut Port<S, B, T>| { commit_many(rt, &shared, port, each) },
+        &|_, port: &mut Port<O, S, B, T>| { commit_many(rt, &shared, port, each) },
     );
     let done = shared.finish(made).ok()?;
     Some(done.totals.steps)
@@ -125,7 +128,7 @@ pub fn commit<R: Threads + Wait + Sync>(
 fn make_events<O: Origin, S: Ledger, B: Ledger, T: Ledger, R: Wait>(
     rt: &R,
     shared: &Shared<Pins, O, S, B, T>,
-    port: &mut Port<S, B, T>,
+    port: &mut Port<O, S, B, T>,
     count: u32,
 ) -> u32 {
     let raise = Event::Raise(0, LINE);
@@ -151,6 +154,8 @@ fn events_by<O: Origin, S: Ledger, B: Ledger, T: Ledger, R: Wait>(
 ) -> Option<u32>
     requires replays { IsReplayOf O.start machine }
     requires base { kind_counts machine.journal ≡ O.base }
+    requires machine { machine ≡ O.machine }
+    requires history { blanks.history ≡ O.book }
     requires steps { (blanks.steps.name ≡ S.name) × (blanks.steps.parts ≡ S.parts) × (S.parts ≡ 1) }
     requires bells { (blanks.bells.name ≡ B.name) × (blanks.bells.parts ≡ B.parts) × (B.parts ≡ 1) }
     requires others { (blanks.others.name ≡ T.name) × (blanks.others.parts ≡ T.parts) × (T.parts ≡ 1) }

@@ -82,12 +82,12 @@ fn spawning(alloc: Global, cpus: u8) -> Option<Machine<Pins>>
 }
 
 // A worker of a processor.
-fn worker_of<S: Ledger, B: Ledger, T: Ledger>(
+fn worker_of<O: Origin, S: Ledger, B: Ledger, T: Ledger>(
     alloc: Global,
     cpu: u8,
-    port: Port<S, B, T>,
+    port: Port<O, S, B, T>,
     taker: Taker,
-) -> Option<Worker<S, B, T>>
+) -> Option<Worker<O, S, B, T>>
     ensures { IfSome result (λ w. w.taker ≡ taker) }
 {
     match Worker::new(alloc, cpu, port, taker) {
@@ -97,13 +97,13 @@ fn worker_of<S: Ledger, B: Ledger, T: Ledger>(
 }
 
 // A worker for each processor.
-fn workers_of<S: Ledger, B: Ledger, T: Ledger>(
+fn workers_of<O: Origin, S: Ledger, B: Ledger, T: Ledger>(
     alloc: Global,
     bells: &Bells,
-    mut ports: Vec<Port<S, B, T>>,
+    mut ports: Vec<Port<O, S, B, T>>,
     mut takers: Vec<Taker>,
     count: u8,
-) -> Option<Vec<Worker<S, B, T>>>
+) -> Option<Vec<Worker<O, S, B, T>>>
     requires { All (IsNewTaker bells.now.id) takers.items }
     ensures { IfSome result (λ workers. All (λ (w : WorkerValue). w.taker.bells ≡ bells.now.id) workers.items) }
 {
@@ -123,9 +123,9 @@ fn workers_of<S: Ledger, B: Ledger, T: Ledger>(
 }
 
 // How many Steps each worker has made.
-fn steps_of<S: Ledger, B: Ledger, T: Ledger>(
+fn steps_of<O: Origin, S: Ledger, B: Ledger, T: Ledger>(
     alloc: Global,
-    workers: Vec<Worker<S, B, T>>,
+    workers: Vec<Worker<O, S, B, T>>,
 ) -> Option<Vec<u64>> {
     let mut steps = Vec::new(alloc);
     for worker in workers {
@@ -153,6 +153,8 @@ fn turns_by<
     requires few { workers ≤ 4 }
     requires replays { IsReplayOf O.start machine }
     requires base { kind_counts machine.journal ≡ O.base }
+    requires machine { machine ≡ O.machine }
+    requires history { blanks.history ≡ O.book }
     requires steps { (blanks.steps.name ≡ S.name) × (blanks.steps.parts ≡ S.parts) × (S.parts ≡ workers + 1) }
     requires bells { (blanks.bells.name ≡ B.name) × (blanks.bells.parts ≡ B.parts) × (B.parts ≡ workers + 1) }
     requires others { (blanks.others.name ≡ T.name) × (blanks.others.parts ≡ T.parts) × (T.parts ≡ workers + 1) }
@@ -202,7 +204,7 @@ fn ahead<O: Origin, S: Ledger, B: Ledger, T: Ledger, R: Wait>(
     rt: &R,
     alloc: Global,
     shared: &Shared<Pins, O, S, B, T>,
-    port: &mut Port<S, B, T>,
+    port: &mut Port<O, S, B, T>,
 ) -> Option<Burst> {
     let done = shared
         .commit(rt, port, 0, &Burst::empty(Hart::default()))
@@ -217,7 +219,7 @@ fn ahead<O: Origin, S: Ledger, B: Ledger, T: Ledger, R: Wait>(
 fn hold_many<O: Origin, S: Ledger, B: Ledger, T: Ledger, R: Wait>(
     rt: &R,
     shared: &Shared<Pins, O, S, B, T>,
-    port: &mut Port<S, B, T>,
+    port: &mut Port<O, S, B, T>,
     burst: &Burst,
     count: u32,
 ) -> u32 {
@@ -243,6 +245,8 @@ fn hold_by<O: Origin, S: Ledger, B: Ledger, T: Ledger, R: Wait>(
 ) -> Option<u32>
     requires replays { IsReplayOf O.start machine }
     requires base { kind_counts machine.journal ≡ O.base }
+    requires machine { machine ≡ O.machine }
+    requires history { blanks.history ≡ O.book }
     requires steps { (blanks.steps.name ≡ S.name) × (blanks.steps.parts ≡ S.parts) × (S.parts ≡ 1) }
     requires bells { (blanks.bells.name ≡ B.name) × (blanks.bells.parts ≡ B.parts) × (B.parts ≡ 1) }
     requires others { (blanks.others.name ≡ T.name) × (blanks.others.parts ≡ T.parts) × (T.parts ≡ 1) }

@@ -1,3 +1,4 @@
+pub mod Answered
 pub mod Bells
 pub mod Covering
 pub mod Exact

@@ -10,10 +10,11 @@ use Rattle.evm_bells.specs.Seats.{TakerValue, taken_by}
 use Rattle.evm_lines.specs.declared.TheConstants.{LINES}
 use Rattle.evm_model.specs.State.{State}
 use Rattle.evm_model.specs.declared.refusal.Refusal.{Refusal}
-use Rattle.evm_shared.specs.Ports.{Delivers, MakesBells, MakesSteps, PortValue}
+use Rattle.evm_shared.specs.Ports.{Delivers, MakesBells, MakesSteps, PortValue, with_log}
 use Rattle.evm_shared.specs.Receipts.{bells_below}
 use Rattle.evm_shared.specs.Workers.{HasTurned, LacksCommit, LacksDeliver, MakesTurn, MakesTurns, RefusesTurn, StopsTurns, WorkerValue}
 use Rattle.evm_shared.specs.declared.event_counts.EventCounts.{EventCounts}
+use Rattle.evm_shared.specs.declared.receipt.Made.{Made}
 use Rattle.evm_shared.specs.declared.receipt.Made.TheVariants.{Bells}
 use Rattle.claims_threads.proofs.Said.{bell_if, bit_tested, shares_more}
 use Rattle.claims_threads.proofs.Taken.{committed, short_same}
@@ -45,21 +46,21 @@ lines_more d word old new is =
 
 -- ---- a deliver
 
-delivers_tested : (b : Bool) (before : State) (d word : ℕ) (old new : PortValue) → (word == 0) ≡ b → Delivers before d word old new → new.share.bells ≡ old.share.bells + lines_below word LINES
-delivers_tested true before d word old new test h =
-    let same : new ≡ old = rw test at h in
+delivers_tested : (b : Bool) (log : List Made) (before : State) (d word : ℕ) (old new : PortValue) → (word == 0) ≡ b → Delivers log before d word old new → new.share.bells ≡ old.share.bells + lines_below word LINES
+delivers_tested true log before d word old new test h =
+    let same : new ≡ with_log log old = rw test at h in
     let none : word ≡ 0 = eqb-true word 0 test in
     omega (arith, ap (λ (p : PortValue). p.share.bells) same, ap (λ n. lines_below n LINES) none, no_lines LINES)
-delivers_tested false before d word old new test h =
+delivers_tested false log before d word old new test h =
     let records = rw test at h in
-    let share = shares_more before (Bells d word) _ old new records in
+    let share = shares_more log before (Bells d word) _ old new records in
     omega (arith, ap (λ (n : EventCounts). n.bells) share, bells_long d word LINES)
 
 delivered : (start : State) (cpus d word : ℕ) (old new : PortValue) → MakesBells start cpus d (Ok word) old new → new.share.bells ≡ old.share.bells + lines_below word LINES
-delivered start cpus d word old new h = delivers_tested (word == 0) h.0 d word old new refl (h.2).1
+delivered start cpus d word old new h = delivers_tested (word == 0) h.0 h.1 d word old new refl (h.4).1
 
 refused : (start : State) (cpus d : ℕ) (why : Refusal) (old new : PortValue) → MakesBells start cpus d (Err why) old new → new.share.bells ≡ old.share.bells
-refused start cpus d why old new h = ap (λ (p : PortValue). p.share.bells) (h.2).1 ∙ ap (λ (n : EventCounts). n.bells) (short_same why old).1
+refused start cpus d why old new h = ap (λ (p : PortValue). p.share.bells) (h.4).1 ∙ ap (λ (n : EventCounts). n.bells) (short_same why (with_log h.0 old)).1
 
 pub deliver_made : (start : State) (cpus d : ℕ) (result : Result ℕ Refusal) (old new : PortValue) (taker left : TakerValue) → MakesBells start cpus d result old new
     → MatchResult result (λ word. left.taken ≡ taker.taken ++ (d, word) ∷ []) (λ why. left ≡ taker) → MakesTaken old taker → MakesTaken new left

@@ -103,14 +103,14 @@ said_more such receipts position made =
     omega (arith, one, last)
 
 -- after an accepted call through a port with room
-pub says_more : (such : Event → Bool) (before : State) (made : Made) (more : EventCounts) (old new : PortValue) → 0 < old.room → Records before made more old new → in_receipts such new.receipts ≡ in_receipts such old.receipts + count_by such (made_events made)
-says_more such before made more old new some records =
-    let counted : PortValue = record old { share = plus old.share more } in
+pub says_more : (such : Event → Bool) (log : List Made) (before : State) (made : Made) (more : EventCounts) (old new : PortValue) → 0 < old.room → Records log before made more old new → in_receipts such new.receipts ≡ in_receipts such old.receipts + count_by such (made_events made)
+says_more such log before made more old new some records =
+    let counted : PortValue = record old { share = plus old.share more; log = log ++ made ∷ [] } in
     ap (λ (p : PortValue). in_receipts such p.receipts) records ∙ ap (in_receipts such) (kept_tested (old.room == 0) (length before.journal) made counted refl some) ∙ said_more such old.receipts (length before.journal) made
 
-pub shares_more : (before : State) (made : Made) (more : EventCounts) (old new : PortValue) → Records before made more old new → new.share ≡ plus old.share more
-shares_more before made more old new records =
-    let counted : PortValue = record old { share = plus old.share more } in
+pub shares_more : (log : List Made) (before : State) (made : Made) (more : EventCounts) (old new : PortValue) → Records log before made more old new → new.share ≡ plus old.share more
+shares_more log before made more old new records =
+    let counted : PortValue = record old { share = plus old.share more; log = log ++ made ∷ [] } in
     ap (λ (p : PortValue). p.share) records ∙ share_tested (old.room == 0) (length before.journal) made counted refl
 
 -- a call that makes no such event says none, whether its receipt is kept or not
@@ -118,9 +118,9 @@ none_tested : (b : Bool) (such : Event → Bool) (position : ℕ) (made : Made) 
 none_tested true such position made p test none = rw test refl
 none_tested false such position made p test none = rw test (omega (arith, said_more such p.receipts position made, none))
 
-pub says_none : (such : Event → Bool) (before : State) (made : Made) (more : EventCounts) (old new : PortValue) → count_by such (made_events made) ≡ 0 → Records before made more old new → in_receipts such new.receipts ≡ in_receipts such old.receipts
-says_none such before made more old new none records =
-    let counted : PortValue = record old { share = plus old.share more } in
+pub says_none : (such : Event → Bool) (log : List Made) (before : State) (made : Made) (more : EventCounts) (old new : PortValue) → count_by such (made_events made) ≡ 0 → Records log before made more old new → in_receipts such new.receipts ≡ in_receipts such old.receipts
+says_none such log before made more old new none records =
+    let counted : PortValue = record old { share = plus old.share more; log = log ++ made ∷ [] } in
     ap (λ (p : PortValue). in_receipts such p.receipts) records ∙ none_tested (old.room == 0) such (length before.journal) made counted refl none
 
 -- a call takes one place for a receipt at most
@@ -128,9 +128,9 @@ room_tested : (b : Bool) (position : ℕ) (made : Made) (p : PortValue) → (p.r
 room_tested true position made p test = rw test (omega arith)
 room_tested false position made p test = rw test (omega arith)
 
-pub room_left : (before : State) (made : Made) (more : EventCounts) (old new : PortValue) → Records before made more old new → old.room ≤ new.room + 1
-room_left before made more old new records =
-    let counted : PortValue = record old { share = plus old.share more } in
+pub room_left : (log : List Made) (before : State) (made : Made) (more : EventCounts) (old new : PortValue) → Records log before made more old new → old.room ≤ new.room + 1
+room_left log before made more old new records =
+    let counted : PortValue = record old { share = plus old.share more; log = log ++ made ∷ [] } in
     let left = room_tested (old.room == 0) (length before.journal) made counted refl in
     omega (arith, left, ap (λ (p : PortValue). p.room) records)
 
@@ -139,7 +139,7 @@ since_tested : (b : Bool) (position : ℕ) (made : Made) (p : PortValue) → (p.
 since_tested true position made p test = rw test refl
 since_tested false position made p test = rw test refl
 
-pub same_since : (before : State) (made : Made) (more : EventCounts) (old new : PortValue) → Records before made more old new → new.since ≡ old.since
-same_since before made more old new records =
-    let counted : PortValue = record old { share = plus old.share more } in
+pub same_since : (log : List Made) (before : State) (made : Made) (more : EventCounts) (old new : PortValue) → Records log before made more old new → new.since ≡ old.since
+same_since log before made more old new records =
+    let counted : PortValue = record old { share = plus old.share more; log = log ++ made ∷ [] } in
     ap (λ (p : PortValue). p.since) records ∙ since_tested (old.room == 0) (length before.journal) made counted refl

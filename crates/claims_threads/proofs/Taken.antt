@@ -18,10 +18,11 @@ use Rattle.evm_model.specs.declared.event.Event.TheVariants as event
 use Rattle.evm_model.specs.Refusals.{number_of}
 use Rattle.evm_model.specs.declared.refusal.Refusal.{Refusal}
 use Rattle.evm_model.specs.declared.refusal.Refusal.TheVariants as refusals
-use Rattle.evm_shared.specs.Ports.{Delivers, MakesBells, MakesOne, MakesSteps, PortValue, Records, marked, marked_short}
+use Rattle.evm_shared.specs.Ports.{Delivers, MakesBells, MakesOne, MakesSteps, PortValue, Records, marked, marked_short, with_log}
 use Rattle.evm_shared.specs.Receipts.{bells_below, made_events}
 use Rattle.evm_shared.specs.Workers.{HasTurned, MakesTurn, MakesTurns, StopsTurns, WorkerValue, least_refusal, lesser_refusal}
 use Rattle.evm_shared.specs.declared.event_counts.EventCounts.{EventCounts}
+use Rattle.evm_shared.specs.declared.receipt.Made.{Made}
 use Rattle.evm_shared.specs.declared.receipt.Made.TheVariants.{Steps, Bells, One}
 use Rattle.claims_threads.proofs.Said.{room_left, same_since, says_bells, says_lines, says_more, says_none, shares_more}
 use Rattle.claims_threads.specs.Lines.{in_ports, in_receipts, is_bell, rings}
@@ -46,24 +47,24 @@ abbrev pub Says : ℕ → ℕ → PortValue → PortValue → Type 0
 Says d word old new = ((c l : ℕ) → l < LINES → in_receipts (rings c l) new.receipts ≡ in_receipts (rings c l) old.receipts + cond (d == c) (bit_at word l) 0)
     × (new.share.bells + in_receipts is_bell old.receipts ≡ old.share.bells + in_receipts is_bell new.receipts) × (old.room ≤ new.room + 1)
 
-delivers_tested : (b : Bool) (before : State) (d word : ℕ) (old new : PortValue) → (word == 0) ≡ b → 0 < old.room → Delivers before d word old new → Says d word old new
-delivers_tested true before d word old new test some h =
-    let same : new ≡ old = rw test at h in
+delivers_tested : (b : Bool) (log : List Made) (before : State) (d word : ℕ) (old new : PortValue) → (word == 0) ≡ b → 0 < old.room → Delivers log before d word old new → Says d word old new
+delivers_tested true log before d word old new test some h =
+    let same : new ≡ with_log log old = rw test at h in
     let none : word ≡ 0 = eqb-true word 0 test in (
       λ c l low. omega (arith, ap (λ (p : PortValue). in_receipts (rings c l) p.receipts) same, choose_none (d == c) word l none),
       omega (arith, ap (λ (p : PortValue). in_receipts is_bell p.receipts) same, ap (λ (p : PortValue). p.share.bells) same),
       omega (arith, ap (λ (p : PortValue). p.room) same),
     )
-delivers_tested false before d word old new test some h =
+delivers_tested false log before d word old new test some h =
     let records = rw test at h in
-    let share = shares_more before (Bells d word) _ old new records in (
-      λ c l low. says_more (rings c l) before (Bells d word) _ old new some records ∙ ap (λ n. in_receipts (rings c l) old.receipts + n) (says_lines c l d word low),
-      omega (arith, ap (λ (n : EventCounts). n.bells) share, says_more is_bell before (Bells d word) _ old new some records, says_bells d word),
-      room_left before (Bells d word) _ old new records,
+    let share = shares_more log before (Bells d word) _ old new records in (
+      λ c l low. says_more (rings c l) log before (Bells d word) _ old new some records ∙ ap (λ n. in_receipts (rings c l) old.receipts + n) (says_lines c l d word low),
+      omega (arith, ap (λ (n : EventCounts). n.bells) share, says_more is_bell log before (Bells d word) _ old new some records, says_bells d word),
+      room_left log before (Bells d word) _ old new records,
     )
 
 pub delivered : (start : State) (cpus d word : ℕ) (old new : PortValue) → 0 < old.room → MakesBells start cpus d (Ok word) old new → Says d word old new
-delivered start cpus d word old new some h = delivers_tested (word == 0) h.0 d word old new refl some (h.2).1
+delivered start cpus d word old new some h = delivers_tested (word == 0) h.0 h.1 d word old new refl some (h.4).1
 
 pub taken_more : (d word c l : ℕ) (old new : List Batch) → new ≡ old ++ (d, word) ∷ [] → count new c l ≡ count old c l + cond (d == c) (bit_at word l) 0
 taken_more d word c l old new is = ap (λ bs. count bs c l) is ∙ count-append old ((d, word) ∷ []) c l ∙ ap (λ n. count old c l + n) (one_batch d word c l)
@@ -84,15 +85,15 @@ pub says_taken : (start : State) (cpus d : ℕ) (result : Result ℕ Refusal) (o
 says_taken start cpus d (Ok word) old new taker left h taken some c l low =
     omega (arith, taken_more d word c l taker.taken left.taken taken, (delivered start cpus d word old new some h).0 c l low)
 says_taken start cpus d (Err why) old new taker left h taken some c l low =
-    let same = (h.2).1 in
-    omega (arith, ap (λ (t : TakerValue). count t.taken c l) taken, ap (λ (p : PortValue). in_receipts (rings c l) p.receipts) same, ap (in_receipts (rings c l)) (short_same why old).0)
+    let same = (h.4).1 in
+    omega (arith, ap (λ (t : TakerValue). count t.taken c l) taken, ap (λ (p : PortValue). in_receipts (rings c l) p.receipts) same, ap (in_receipts (rings c l)) (short_same why (with_log h.0 old)).0)
 
 pub says_made : (start : State) (cpus d : ℕ) (result : Result ℕ Refusal) (old new : PortValue) → MakesBells start cpus d result old new → 0 < old.room
     → new.share.bells + in_receipts is_bell old.receipts ≡ old.share.bells + in_receipts is_bell new.receipts
 says_made start cpus d (Ok word) old new h some = (delivered start cpus d word old new some h).1
 says_made start cpus d (Err why) old new h some =
-    let same = (h.2).1 in
-    omega (arith, ap (λ (p : PortValue). p.share.bells) same, ap (λ (n : EventCounts). n.bells) (short_same why old).1, ap (λ (p : PortValue). in_receipts is_bell p.receipts) same, ap (in_receipts is_bell) (short_same why old).0)
+    let same = (h.4).1 in
+    omega (arith, ap (λ (p : PortValue). p.share.bells) same, ap (λ (n : EventCounts). n.bells) (short_same why (with_log h.0 old)).1, ap (λ (p : PortValue). in_receipts is_bell p.receipts) same, ap (in_receipts is_bell) (short_same why (with_log h.0 old)).0)
 
 -- ---- calls that make no Bell
 
@@ -107,9 +108,9 @@ steps_are_no_bells : (d n : ℕ) → count_by is_bell (replicate n (event.Step d
 steps_are_no_bells d zero = refl
 steps_are_no_bells d (suc n) = steps_are_no_bells d n
 
-refused_quiet : (why : Refusal) (old new : PortValue) → new ≡ marked why old → Quiet old new
-refused_quiet why old new is =
-    let same = marked_same why old in (
+refused_quiet : (why : Refusal) (log : List Made) (old new : PortValue) → new ≡ marked why (with_log log old) → Quiet old new
+refused_quiet why log old new is =
+    let same = marked_same why (with_log log old) in (
       λ c l. ap (λ (p : PortValue). in_receipts (rings c l) p.receipts) is ∙ ap (in_receipts (rings c l)) same.0,
       ap (λ (p : PortValue). p.share.bells) is ∙ ap (λ (n : EventCounts). n.bells) same.1,
       ap (λ (p : PortValue). in_receipts is_bell p.receipts) is ∙ ap (in_receipts is_bell) same.0,
@@ -118,14 +119,14 @@ refused_quiet why old new is =
 
 pub committed : (start : State) (d : ℕ) (burst : Speculated) (result : Result Committed Refusal) (old new : PortValue) → MakesSteps start d burst result old new → Quiet old new
 committed start d burst (Ok done) old new h =
-    let records = (h.2).1 in
+    let records = (h.4).1 in
     let made = Steps d done.steps in (
-      λ c l. says_none (rings c l) h.0 made _ old new (steps_ring_nothing c l d done.steps) records,
-      omega (arith, ap (λ (n : EventCounts). n.bells) (shares_more h.0 made _ old new records)),
-      says_none is_bell h.0 made _ old new (steps_are_no_bells d done.steps) records,
-      room_left h.0 made _ old new records,
+      λ c l. says_none (rings c l) h.0 h.1 made _ old new (steps_ring_nothing c l d done.steps) records,
+      omega (arith, ap (λ (n : EventCounts). n.bells) (shares_more h.0 h.1 made _ old new records)),
+      says_none is_bell h.0 h.1 made _ old new (steps_are_no_bells d done.steps) records,
+      room_left h.0 h.1 made _ old new records,
     )
-committed start d burst (Err why) old new h = refused_quiet why old new (h.2).1
+committed start d burst (Err why) old new h = refused_quiet why h.0 old new (h.4).1
 
 -- an event that is no Bell rings nothing
 rings_nothing : (c l : ℕ) (e : Event) → is_bell e ≡ false → count_by (rings c l) (e ∷ []) ≡ 0
@@ -138,14 +139,14 @@ one_tested_bell false e is off = rw is refl
 
 pub commanded : (start : State) (e : Event) (result : Result Answer Refusal) (old new : PortValue) → is_bell e ≡ false → MakesOne start e result old new → Quiet old new
 commanded start e (Ok answer) old new no_bell h =
-    let records = (h.2).1 in
+    let records = (h.4).1 in
     let none = one_tested_bell (is_bell e) e refl no_bell in (
-      λ c l. says_none (rings c l) h.0 (One e) _ old new (rings_nothing c l e no_bell) records,
-      omega (arith, ap (λ (n : EventCounts). n.bells) (shares_more h.0 (One e) _ old new records), none),
-      says_none is_bell h.0 (One e) _ old new none records,
-      room_left h.0 (One e) _ old new records,
+      λ c l. says_none (rings c l) h.0 h.1 (One e) _ old new (rings_nothing c l e no_bell) records,
+      omega (arith, ap (λ (n : EventCounts). n.bells) (shares_more h.0 h.1 (One e) _ old new records), none),
+      says_none is_bell h.0 h.1 (One e) _ old new none records,
+      room_left h.0 h.1 (One e) _ old new records,
     )
-commanded start e (Err why) old new no_bell h = refused_quiet why old new (h.2).1
+commanded start e (Err why) old new no_bell h = refused_quiet why h.0 old new (h.4).1
 
 -- ---- turns
 
@@ -201,19 +202,19 @@ run_says start cpus n (Err why) olds news same turned_all least = tt
 
 -- ---- when the ports were made
 
-delivered_since : (b : Bool) (before : State) (d word : ℕ) (old new : PortValue) → (word == 0) ≡ b → Delivers before d word old new → new.since ≡ old.since
-delivered_since true before d word old new test h =
-    let same : new ≡ old = rw test at h in
+delivered_since : (b : Bool) (log : List Made) (before : State) (d word : ℕ) (old new : PortValue) → (word == 0) ≡ b → Delivers log before d word old new → new.since ≡ old.since
+delivered_since true log before d word old new test h =
+    let same : new ≡ with_log log old = rw test at h in
     ap (λ (p : PortValue). p.since) same
-delivered_since false before d word old new test h =
+delivered_since false log before d word old new test h =
     let records = rw test at h in
-    same_since before (Bells d word) _ old new records
+    same_since log before (Bells d word) _ old new records
 
 bells_since : (start : State) (cpus d word : ℕ) (old new : PortValue) → MakesBells start cpus d (Ok word) old new → new.since ≡ old.since
-bells_since start cpus d word old new h = delivered_since (word == 0) h.0 d word old new refl (h.2).1
+bells_since start cpus d word old new h = delivered_since (word == 0) h.0 h.1 d word old new refl (h.4).1
 
 steps_since : (start : State) (d : ℕ) (burst : Speculated) (done : Committed) (old new : PortValue) → MakesSteps start d burst (Ok done) old new → new.since ≡ old.since
-steps_since start d burst done old new h = same_since h.0 (Steps d done.steps) _ old new (h.2).1
+steps_since start d burst done old new h = same_since h.0 h.1 (Steps d done.steps) _ old new (h.4).1
 
 turns_since : (start : State) (cpus n : ℕ) (old new : WorkerValue) → MakesTurns start cpus n old new → new.port.since ≡ old.port.since
 turns_since start cpus zero old new made = ap (λ (w : WorkerValue). w.port.since) made

@@ -37,10 +37,10 @@ pub trait Ringing: Sync {
 fn workers_of<O: Origin, S: Ledger, B: Ledger, T: Ledger>(
     alloc: Global,
     bells: &Bells,
-    mut ports: Vec<Port<S, B, T>>,
+    mut ports: Vec<Port<O, S, B, T>>,
     mut takers: Vec<Taker>,
     turns: u32,
-) -> Option<Vec<Worker<S, B, T>>>
+) -> Option<Vec<Worker<O, S, B, T>>>
     requires ports { All (λ (p : PortValue). (since : ℕ) × (p ≡ fresh_port (2 * turns) since) × (event_total O.base ≤ since)) ports.items }
     requires takers { All (IsNewTaker bells.now.id) takers.items }
     ensures { IfSome result (λ workers. All (IsSaidWithRoom bells.now (event_total O.base) turns) workers.items) }
@@ -62,8 +62,8 @@ fn workers_of<O: Origin, S: Ledger, B: Ledger, T: Ledger>(
 fn parts_of<O: Origin, S: Ledger, B: Ledger, T: Ledger>(
     alloc: Global,
     bells: &Bells,
-    mut workers: Vec<Worker<S, B, T>>,
-) -> Option<(Vec<Port<S, B, T>>, Vec<Taker>)>
+    mut workers: Vec<Worker<O, S, B, T>>,
+) -> Option<(Vec<Port<O, S, B, T>>, Vec<Taker>)>
     requires { All (IsSaid bells.now (event_total O.base)) workers.items }
     ensures pairs { IfSome result (λ parts. SayTaken parts.0.items parts.1.items) }
     ensures since { IfSome result (λ parts. All (λ (p : PortValue). event_total O.base ≤ p.since) parts.0.items) }
@@ -92,10 +92,10 @@ fn run_all<
     rt: &R,
     shared: &Shared<D, O, S, B, T>,
     bells: &Bells,
-    mut workers: Vec<Worker<S, B, T>>,
+    mut workers: Vec<Worker<O, S, B, T>>,
     turns: u32,
     gate: &G,
-) -> Option<Vec<Worker<S, B, T>>>
+) -> Option<Vec<Worker<O, S, B, T>>>
     requires { All (IsSaidWithRoom bells.now (event_total O.base) turns) workers.items }
     ensures { IfSome result (λ after. All (IsSaid bells.now (event_total O.base)) after.items) }
 {
@@ -121,10 +121,10 @@ fn ring_beside<
     bells: &Bells,
     ringer: Ringer,
     ringing: &L,
-    workers: Vec<Worker<S, B, T>>,
+    workers: Vec<Worker<O, S, B, T>>,
     turns: u32,
     gate: &G,
-) -> (Ringer, Option<Vec<Worker<S, B, T>>>)
+) -> (Ringer, Option<Vec<Worker<O, S, B, T>>>)
     requires ringer { ringer.bells ≡ bells.now.id }
     requires workers { All (IsSaidWithRoom bells.now (event_total O.base) turns) workers.items }
     ensures ringer { result.0.bells ≡ bells.now.id }
@@ -136,7 +136,7 @@ fn ring_beside<
             requires { ringer.bells ≡ bells.now.id }
             ensures { result.bells ≡ bells.entry.now.id }
         { ringing.ring(bells, ringer) },
-        move || -> Option<Vec<Worker<S, B, T>>>
+        move || -> Option<Vec<Worker<O, S, B, T>>>
             requires { All (IsSaidWithRoom bells.now (event_total O.base) turns) workers.items }
             ensures { IfSome result (λ after. All (IsSaid bells.entry.now (event_total O.base)) after.items) }
         { run_all(rt, shared, bells, workers, turns, gate) },
@@ -167,9 +167,11 @@ pub fn rings_beside_workers_become_bells<
     ringing: &L,
     turns: u32,
     gate: &G,
-) -> Option<(Finished<D, S, B, T>, Closed)>
+) -> Option<(Finished<D, O, S, B, T>, Closed)>
     requires replays { IsReplayOf O.start machine }
     requires base { kind_counts machine.journal ≡ O.base }
+    requires machine { machine ≡ O.machine }
+    requires history { blanks.history ≡ O.book }
     requires steps { (blanks.steps.name ≡ S.name) × (blanks.steps.parts ≡ S.parts) × (S.parts ≡ cpus) }
     requires bells { (blanks.bells.name ≡ B.name) × (blanks.bells.parts ≡ B.parts) × (B.parts ≡ cpus) }
     requires others { (blanks.others.name ≡ T.name) × (blanks.others.parts ≡ T.parts) × (T.parts ≡ cpus) }

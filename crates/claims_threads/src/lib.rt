@@ -3,6 +3,7 @@
 #![tactic(auto)]
 
 mod beside;
+mod calls;
 mod rings;
 mod sharing;
 mod stages;
@@ -10,6 +11,10 @@ mod taking;
 mod whole;
 
 pub use beside::{Ringing, rings_beside_workers_become_bells};
+pub use calls::{
+    a_commit_is_answered_by_all_calls_before_it, a_deliver_is_answered_by_all_calls_before_it,
+    a_tick_is_answered_by_all_calls_before_it,
+};
 pub use rings::{checked_receipts_have_each_bell, each_ring_is_left_or_becomes_a_bell};
 pub use sharing::the_machine_under_the_lock_is_its_journals_replay;
 pub use stages::{each_bell_comes_to_a_stage, each_ring_comes_to_a_stage};

@@ -17,9 +17,9 @@ use std::sync::ledger::Ledger;
 
 /// Ports whose receipts are checked, and which say as many Bells as the machine's journal has: of each line of each
 /// processor they say as many as the journal has.
-pub fn checked_receipts_have_each_bell<D: Device, S: Ledger, B: Ledger, T: Ledger>(
+pub fn checked_receipts_have_each_bell<D: Device, O: Origin, S: Ledger, B: Ledger, T: Ledger>(
     machine: &Machine<D>,
-    ports: &[&Port<S, B, T>],
+    ports: &[&Port<O, S, B, T>],
 ) -> bool
     ensures holds { result ≡ true → PortsHold machine.now (lent ports.now) (length ports.now) }
     ensures lines { result ≡ true → in_ports is_bell (lent ports.now) ≡ count_by is_bell machine.now.journal
@@ -38,11 +38,11 @@ pub fn checked_receipts_have_each_bell<D: Device, S: Ledger, B: Ledger, T: Ledge
 /// Bells were made before, so it is with those since then, if the ports were made no earlier.
 pub fn each_ring_is_left_or_becomes_a_bell<D: Device, O: Origin, S: Ledger, B: Ledger, T: Ledger>(
     shared: Shared<D, O, S, B, T>,
-    ports: Vec<Port<S, B, T>>,
+    ports: Vec<Port<O, S, B, T>>,
     bells: Bells,
     ringer: Ringer,
     takers: Vec<Taker>,
-) -> Option<(Finished<D, S, B, T>, Closed)>
+) -> Option<(Finished<D, O, S, B, T>, Closed)>
     requires ringer { ringer.bells ≡ bells.id }
     requires takers { All (λ (t : TakerValue). t.bells ≡ bells.id) takers.items }
     // all ends if these are all ports and all seats

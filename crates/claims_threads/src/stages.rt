@@ -47,11 +47,11 @@ pub fn each_bell_comes_to_a_stage()
 /// each Bell of the line among the first events is counted with the fresh rings.
 pub fn each_ring_comes_to_a_stage<D: Device, O: Origin, S: Ledger, B: Ledger, T: Ledger>(
     shared: Shared<D, O, S, B, T>,
-    ports: Vec<Port<S, B, T>>,
+    ports: Vec<Port<O, S, B, T>>,
     bells: Bells,
     ringer: Ringer,
     takers: Vec<Taker>,
-) -> Option<(Finished<D, S, B, T>, Closed)>
+) -> Option<(Finished<D, O, S, B, T>, Closed)>
     requires ringer { ringer.bells ≡ bells.id }
     requires takers { All (λ (t : TakerValue). t.bells ≡ bells.id) takers.items }
     // all ends if these are all ports and all seats

@@ -27,7 +27,7 @@ use std::thread::Threads;
 pub fn a_deliver_says_what_it_takes<D: Device, O: Origin, S: Ledger, B: Ledger, T: Ledger, R: Wait>(
     rt: &R,
     shared: &Shared<D, O, S, B, T>,
-    port: &mut Port<S, B, T>,
+    port: &mut Port<O, S, B, T>,
     bells: &Bells,
     taker: &mut Taker,
     cpu: u8,
@@ -44,7 +44,7 @@ pub fn a_deliver_says_what_it_takes<D: Device, O: Origin, S: Ledger, B: Ledger, 
 pub fn a_commit_says_no_bell<D: Device, O: Origin, S: Ledger, B: Ledger, T: Ledger, R: Wait>(
     rt: &R,
     shared: &Shared<D, O, S, B, T>,
-    port: &mut Port<S, B, T>,
+    port: &mut Port<O, S, B, T>,
     cpu: u8,
     burst: &Burst,
 ) -> Result<Committed, Refusal>
@@ -58,7 +58,7 @@ pub fn a_commit_says_no_bell<D: Device, O: Origin, S: Ledger, B: Ledger, T: Ledg
 pub fn a_command_says_no_bell<D: Device, O: Origin, S: Ledger, B: Ledger, T: Ledger, R: Wait>(
     rt: &R,
     shared: &Shared<D, O, S, B, T>,
-    port: &mut Port<S, B, T>,
+    port: &mut Port<O, S, B, T>,
     event: &Event,
 ) -> Result<Answer, Refusal>
     requires { is_bell event.now ≡ false }
@@ -83,7 +83,7 @@ pub fn a_run_says_what_it_takes<
     rt: &R,
     shared: &Shared<D, O, S, B, T>,
     bells: &Bells,
-    workers: &mut [Worker<S, B, T>],
+    workers: &mut [Worker<O, S, B, T>],
     turns: u32,
     gate: &G,
 ) -> Result<(), Refusal>
@@ -115,11 +115,11 @@ pub fn each_ring_is_left_or_becomes_a_bell_of_a_pair<
     T: Ledger,
 >(
     shared: Shared<D, O, S, B, T>,
-    ports: Vec<Port<S, B, T>>,
+    ports: Vec<Port<O, S, B, T>>,
     bells: Bells,
     ringer: Ringer,
     takers: Vec<Taker>,
-) -> Option<(Finished<D, S, B, T>, Closed)>
+) -> Option<(Finished<D, O, S, B, T>, Closed)>
     requires ringer { ringer.bells ≡ bells.id }
     requires takers { All (λ (t : TakerValue). t.bells ≡ bells.id) takers.items }
     // all ends if these are all ports and all seats

@@ -29,10 +29,10 @@ use std::alloc::Global;
 use std::sync::ledger::Ledger;
 
 // References to some ports.
-fn lend_ports<'a, S: Ledger, B: Ledger, T: Ledger>(
+fn lend_ports<'a, O: Origin, S: Ledger, B: Ledger, T: Ledger>(
     alloc: Global,
-    ports: &'a [Port<S, B, T>],
-) -> Option<Vec<&'a Port<S, B, T>>>
+    ports: &'a [Port<O, S, B, T>],
+) -> Option<Vec<&'a Port<O, S, B, T>>>
     ensures { IfSome result (λ refs. lent refs.items ≡ ports.now) }
 {
     let mut refs = with_room(alloc, ports.len()).ok()?;
@@ -43,10 +43,10 @@ fn lend_ports<'a, S: Ledger, B: Ledger, T: Ledger>(
 }
 
 // Whether the check of some ports is passed.
-fn are_checked<D: Device, S: Ledger, B: Ledger, T: Ledger>(
+fn are_checked<D: Device, O: Origin, S: Ledger, B: Ledger, T: Ledger>(
     alloc: Global,
     machine: &Machine<D>,
-    ports: &[Port<S, B, T>],
+    ports: &[Port<O, S, B, T>],
 ) -> bool
     ensures { result ≡ true → PortsHold machine.now ports.now (length ports.now) }
 {
@@ -76,11 +76,11 @@ fn are_checked<D: Device, S: Ledger, B: Ledger, T: Ledger>(
 pub fn no_interrupt_is_lost_or_played_twice<D: Device, O: Origin, S: Ledger, B: Ledger, T: Ledger>(
     alloc: Global,
     shared: Shared<D, O, S, B, T>,
-    ports: Vec<Port<S, B, T>>,
+    ports: Vec<Port<O, S, B, T>>,
     bells: Bells,
     ringer: Ringer,
     takers: Vec<Taker>,
-) -> Option<(Finished<D, S, B, T>, Closed)>
+) -> Option<(Finished<D, O, S, B, T>, Closed)>
     requires ringer { ringer.bells ≡ bells.id }
     requires takers { All (λ (t : TakerValue). t.bells ≡ bells.id) takers.items }
     ensures replayed { IfSome result (λ ended. replay O.start ended.0.machine.journal ≡ ended.0.machine) }

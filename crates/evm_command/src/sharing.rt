@@ -36,12 +36,12 @@ impl Gate for OpenGate {
 }
 
 /// A worker for each of the two processors.
-pub(crate) fn workers_of<S: Ledger, B: Ledger, T: Ledger>(
+pub(crate) fn workers_of<O: Origin, S: Ledger, B: Ledger, T: Ledger>(
     alloc: Global,
     bells: &Bells,
-    mut ports: Vec<Port<S, B, T>>,
+    mut ports: Vec<Port<O, S, B, T>>,
     mut takers: Vec<Taker>,
-) -> Option<Vec<Worker<S, B, T>>>
+) -> Option<Vec<Worker<O, S, B, T>>>
     requires { All (λ (t : TakerValue). t.bells ≡ bells.now.id) takers.items }
     ensures count { IfSome result (λ workers. length workers.items ≡ 2) }
     ensures bells { IfSome result (λ workers. All (λ (w : WorkerValue). w.taker.bells ≡ bells.now.id) workers.items) }
@@ -60,10 +60,10 @@ pub(crate) fn workers_of<S: Ledger, B: Ledger, T: Ledger>(
 }
 
 /// The ports of workers that are done.
-pub(crate) fn ports_of<S: Ledger, B: Ledger, T: Ledger>(
+pub(crate) fn ports_of<O: Origin, S: Ledger, B: Ledger, T: Ledger>(
     alloc: Global,
-    mut workers: Vec<Worker<S, B, T>>,
-) -> Option<Vec<Port<S, B, T>>>
+    mut workers: Vec<Worker<O, S, B, T>>,
+) -> Option<Vec<Port<O, S, B, T>>>
     ensures all { IfSome result (λ ports. length ports.items ≡ length workers.items) }
     ensures steps { IfSome result (λ ports. KeepSteps workers.items ports.items) }
     ensures refused { result ≡ None → RefusedWithin (length workers.items) }
@@ -94,11 +94,11 @@ fn work<
     rt: &R,
     alloc: Global,
     shared: &Shared<D, O, S, B, T>,
-    ports: Vec<Port<S, B, T>>,
+    ports: Vec<Port<O, S, B, T>>,
     turns: u32,
-) -> Option<Vec<Port<S, B, T>>>
+) -> Option<Vec<Port<O, S, B, T>>>
     ensures count { IfSome result (λ ports. length ports.items ≡ 2) }
-    ensures turns { IfSome result (λ ports. HaveTurned O.start turns ports.items) }
+    ensures turns { IfSome result (λ ports. HaveTurned O.machine turns ports.items) }
 {
     let Ok((bells, mut ringer, takers)) = Bells::new(alloc, WORKERS) else {
         return None;
@@ -139,6 +139,8 @@ pub(crate) fn share<
     requires start { machine ≡ O.start }
     requires replays { IsReplayOf O.start machine }
     requires base { kind_counts machine.journal ≡ O.base }
+    requires machine { machine ≡ O.machine }
+    requires history { blanks.history ≡ O.book }
     requires steps { (blanks.steps.name ≡ S.name) × (blanks.steps.parts ≡ S.parts) × (S.parts ≡ 2) }
     requires bells { (blanks.bells.name ≡ B.name) × (blanks.bells.parts ≡ B.parts) × (B.parts ≡ 2) }
     requires others { (blanks.others.name ≡ T.name) × (blanks.others.parts ≡ T.parts) × (T.parts ≡ 2) }

@@ -10,7 +10,7 @@ use evm_host::{
     Devices, Message, OUTPUT, Sink, System, World, failed_write_message, image_at, report,
 };
 use evm_ram::Image;
-use evm_shared::Blanks;
+use evm_shared::{BlankHistory, Blanks};
 use std::alloc::Global;
 use std::sync::Wait;
 use std::sync::ledger::Blank;
@@ -24,6 +24,7 @@ fn blanks() -> Blanks
         steps: Blank::new(2),
         bells: Blank::new(2),
         others: Blank::new(2),
+        history: BlankHistory::new(),
     }
 }
 

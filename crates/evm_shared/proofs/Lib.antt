@@ -1,8 +1,10 @@
 pub mod Bells
 pub mod Breaks
 pub mod Counting
+pub mod Histories
 pub mod Lines
 pub mod Locks
+pub mod Recorded
 pub mod Tested
 pub mod Turns
 pub mod Walks

@@ -1,5 +1,5 @@
 -- What holds of the machine under the lock.
-use Rattle.std.proofs.Common.{◌≡◌, ℕ, ◌+◌, ◌/◌, ◌^◌, ◌≢◌, inl, inr, [], ◌∷◌, ◌++◌, length, refl, sym, ap, ◌∙◌, arith, ⊎_elim, Err, append_assoc, bit_and, length-append}
+use Rattle.std.proofs.Common.{◌≡◌, ℕ, List, subst, ◌+◌, ◌/◌, ◌^◌, ◌≢◌, inl, inr, [], ◌∷◌, ◌++◌, length, refl, sym, ap, ◌∙◌, arith, ⊎_elim, Err, append_assoc, bit_and, length-append}
 use Rattle.std.proofs.lemmas.Bool.{ltb-false}
 use Rattle.std.proofs.lemmas.Bool.Decides.{nat_tests}
 use Rattle.std.proofs.lemmas.List.{append-nil}
@@ -16,13 +16,13 @@ use Rattle.evm_model.specs.declared.event.Event.TheVariants as event
 use Rattle.evm_model.specs.declared.refusal.Refusal.{Refusal}
 use Rattle.evm_shared.proofs.Bells.{bells_off, bells_on}
 use Rattle.evm_shared.proofs.Counting.{begins_whole, same_counts}
-use Rattle.evm_model.specs.Event.{Event}
+use Rattle.evm_shared.proofs.Histories.{made_none}
 use Rattle.evm_model.specs.declared.event.Answer.{Answer}
 use Rattle.evm_model.specs.declared.refusal.Refusal.TheVariants.{Full}
-use Rattle.evm_shared.specs.EventCounts.{kind_counts, none, plus}
-use Rattle.evm_shared.specs.Ports.{IsAccounted, lacks_lines, MakesOne, PortValue, Records, RefusesCpu, recorded}
+use Rattle.evm_shared.specs.EventCounts.{kind_counts, none}
+use Rattle.evm_shared.specs.Ports.{IsAccounted, lacks_lines, MakesOne, PortValue, RefusesCpu}
 use Rattle.evm_shared.specs.declared.event_counts.EventCounts.{EventCounts}
-use Rattle.evm_shared.specs.declared.receipt.Made.TheVariants.{One}
+use Rattle.evm_shared.specs.declared.receipt.Made.{Made}
 use Rattle.std.specs.Prelude.{Result, Ok, IfErr, false, nat_lt, ◌<◌, ◌≤◌}
 use Rattle.evm_shared.specs.Receipts.{bells_below}
 
@@ -43,8 +43,9 @@ is_line s line good all low =
     omega (arith, low, whole)
 
 -- a machine that has all lines comes under the lock
-pub accounted : (start s : State) (base book : EventCounts) → IsReplayOf start s → lacks_lines s.boot ≡ false → kind_counts s.journal ≡ base → book ≡ none → IsAccounted start base s book
-accounted start s base book replays wide counted unused = record {
+pub accounted : (start opened s : State) (base book : EventCounts) (log : List Made) → IsReplayOf start s → s ≡ opened → lacks_lines s.boot ≡ false → kind_counts s.journal ≡ base → book ≡ none → log ≡ []
+    → IsAccounted start opened base s book log
+accounted start opened s base book log replays same wide counted unused empty = record {
   replays = replays;
   lines = omega (arith, ltb-false s.boot.profile WIDE_PROFILE wide, ap (λ (b : Boot). b.profile) (booted_as start s replays));
   counted = same_counts _ _
@@ -52,11 +53,17 @@ accounted start s base book replays wide counted unused = record {
       (omega (arith, ap (λ (x : EventCounts). x.bells) counted, ap (λ (x : EventCounts). x.bells) unused))
       (omega (arith, ap (λ (x : EventCounts). x.others) counted, ap (λ (x : EventCounts). x.others) unused));
   begins = begins_whole base s.journal counted;
+  opened = subst (IsReplayOf start) same replays;
+  made = rw (← same, empty) (made_none s);
 }
 
--- why a Step is refused on a replay of start
-pub refuses : (start s : State) (c : ℕ) (why : Refusal) → GoodState s → IsReplayOf start s → apply s (event.Step c) ≡ Err why → RefusesCpu start c why
-refuses start s c why good replays e = ⊎_elim (λ x. inl x.0) (λ x. inr (x.0, omega (arith, x.1, cpus_of start s good replays))) (step_refusals s c why e)
+-- a machine under the lock has the processors of the one that came under it
+pub cpus_opened : (start opened s : State) → GoodState s → IsReplayOf start s → IsReplayOf start opened → length s.board.parts.processors ≡ opened.boot.cpus
+cpus_opened start opened s good replays before = cpus_of start s good replays ∙ sym (ap (λ (b : Boot). b.cpus) (booted_as start opened before))
+
+-- why a Step is refused there
+pub refuses : (start opened s : State) (c : ℕ) (why : Refusal) → GoodState s → IsReplayOf start s → IsReplayOf start opened → apply s (event.Step c) ≡ Err why → RefusesCpu opened c why
+refuses start opened s c why good replays before e = ⊎_elim (λ x. inl x.0) (λ x. inr (x.0, omega (arith, x.1, cpus_opened start opened s good replays before))) (step_refusals s c why e)
 
 -- ---- the Bells of a word, one after the other
 
@@ -99,11 +106,4 @@ rung_same c word n count old now off h =
 -- a tick is refused as Full alone
 pub tick_full : (start : State) (result : Result Answer Refusal) (old new : PortValue) → MakesOne start event.Tick result old new → IfErr result (λ why. why ≡ Full)
 tick_full start (Ok answer) old new h = tt
-tick_full start (Err why) old new h = (tick_refusals h.0 why h.2.0).0
-
--- the receipt of an event
-pub records_one : (before : State) (e own : Event) (position : ℕ) (more : EventCounts) (old counted new : PortValue) → position ≡ length before.journal → own ≡ e → more ≡ kind_counts (e ∷ [])
-    → counted ≡ (record old { share = plus old.share more }) → new ≡ recorded position (One own) counted → Records before (One e) (kind_counts (e ∷ [])) old new
-records_one before e own position more old counted new at same counts share recorded_is =
-    let whole : counted ≡ (record old { share = plus old.share (kind_counts (e ∷ [])) }) = share ∙ ap (λ m. (record old { share = plus old.share m })) counts in
-    recorded_is ∙ (λ i. recorded (at i) (One (same i)) (whole i))
+tick_full start (Err why) old new h = (tick_refusals h.1 why h.4.0).0

@@ -1,11 +1,11 @@
 -- Turns of a worker, one after the other.
-use Rattle.std.proofs.Common.{◌≡◌, ℕ, suc, ◌+◌, ◌<◌, ◌≤◌, Some, Bool, true, false, inl, inr, length, refl, ap, subst, sym, ◌∙◌, ⊎_elim, arith}
+use Rattle.std.proofs.Common.{◌≡◌, ℕ, suc, ◌+◌, ◌<◌, ◌≤◌, Some, Bool, true, false, inl, inr, List, [], ◌∷◌, ◌++◌, length, refl, ap, subst, sym, ◌∙◌, ⊎_elim, arith}
 use Rattle.std.specs.Prelude.{◌==◌, Ok}
 use Rattle.evm_model.specs.State.{State}
 use Rattle.evm_model.specs.declared.refusal.Refusal.{Refusal}
 use Rattle.evm_model.specs.declared.refusal.Refusal.TheVariants.{Full}
 use Rattle.evm_shared.specs.EventCounts.{counts, plus}
-use Rattle.evm_shared.specs.Ports.{Delivers, IsMarked, MakesBells, PortValue, RefusesCpu, RefusesEither, marked, marked_short, recorded}
+use Rattle.evm_shared.specs.Ports.{Delivers, IsMarked, MakesBells, PortValue, RefusesCpu, RefusesEither, marked, marked_short, recorded, with_log}
 use Rattle.evm_shared.specs.Receipts.{made_events}
 use Rattle.evm_shared.specs.Workers.{HasTurned, LacksCommit, LacksDeliver, MakesTurn, MakesTurns, RefusesTurn, WorkerValue}
 use Rattle.evm_shared.specs.declared.event_counts.EventCounts.{EventCounts}
@@ -41,32 +41,32 @@ recorded_share true position made p test = rw test refl
 recorded_share false position made p test = rw test refl
 
 -- a deliver makes no Step
-delivered_tested : (b : Bool) (before : State) (c word : ℕ) (old new : PortValue) → (word == 0) ≡ b → Delivers before c word old new → new.share.steps ≡ old.share.steps
-delivered_tested true before c word old new test h = let same : new ≡ old = rw test at h in ap (λ (p : PortValue). p.share.steps) same
-delivered_tested false before c word old new test h =
-    let counted : PortValue = record old { share = plus old.share (counts 0 (length (made_events (Bells c word))) 0) } in
+delivered_tested : (b : Bool) (log : List Made) (before : State) (c word : ℕ) (old new : PortValue) → (word == 0) ≡ b → Delivers log before c word old new → new.share.steps ≡ old.share.steps
+delivered_tested true log before c word old new test h = let same : new ≡ with_log log old = rw test at h in ap (λ (p : PortValue). p.share.steps) same
+delivered_tested false log before c word old new test h =
+    let counted : PortValue = record old { share = plus old.share (counts 0 (length (made_events (Bells c word))) 0); log = log ++ Bells c word ∷ [] } in
     let records : new ≡ recorded (length before.journal) (Bells c word) counted = rw test at h in
     let share : new.share ≡ counted.share = ap (λ (p : PortValue). p.share) records ∙ recorded_share (counted.room == 0) (length before.journal) (Bells c word) counted refl in
     omega (arith, ap (λ (n : EventCounts). n.steps) share)
 
 delivered_steps : (start : State) (cpus c word : ℕ) (old new : PortValue) → MakesBells start cpus c (Ok word) old new → new.share.steps ≡ old.share.steps
-delivered_steps start cpus c word old new h = delivered_tested (word == 0) h.0 c word old new refl (h.2).1
+delivered_steps start cpus c word old new h = delivered_tested (word == 0) h.0 h.1 c word old new refl (h.4).1
 
 -- .. the Steps that it had
 refused_steps : (start : State) (cpus : ℕ) (old new : WorkerValue) (why : Refusal) → RefusesTurn start cpus old new why → new.port.share.steps ≡ old.port.share.steps
 refused_steps start cpus old new why refused =
     ⊎_elim
-    (λ (h : LacksDeliver start cpus old new why). ap (λ (p : PortValue). p.share.steps) (h.0.2).1 ∙ ap (λ (n : EventCounts). n.steps) (short_share why old.port))
+    (λ (h : LacksDeliver start cpus old new why). ap (λ (p : PortValue). p.share.steps) (h.0.4).1 ∙ ap (λ (n : EventCounts). n.steps) (short_share why (with_log h.0.0 old.port)))
     (λ (h : LacksCommit start cpus old new why).
-    ap (λ (p : PortValue). p.share.steps) (h.7.2).1 ∙ ap (λ (n : EventCounts). n.steps) (marked_share why h.1) ∙ delivered_steps start cpus old.cpu h.0 old.port h.1 h.4)
+    ap (λ (p : PortValue). p.share.steps) (h.7.4).1 ∙ ap (λ (n : EventCounts). n.steps) (marked_share why (with_log h.7.0 h.1)) ∙ delivered_steps start cpus old.cpu h.0 old.port h.1 h.4)
     refused
 
 -- .. and the mark of a Full
 refused_mark : (start : State) (cpus : ℕ) (old new : WorkerValue) (why : Refusal) → RefusesTurn start cpus old new why → IsMarked why new.port
 refused_mark start cpus old new why refused =
     ⊎_elim
-    (λ (h : LacksDeliver start cpus old new why). subst (IsMarked why) (sym (h.0.2).1) (short_mark why old.port))
-    (λ (h : LacksCommit start cpus old new why). subst (IsMarked why) (sym (h.7.2).1) (full_mark why h.1))
+    (λ (h : LacksDeliver start cpus old new why). subst (IsMarked why) (sym (h.0.4).1) (short_mark why (with_log h.0.0 old.port)))
+    (λ (h : LacksCommit start cpus old new why). subst (IsMarked why) (sym (h.7.4).1) (full_mark why (with_log h.7.0 h.1)))
     refused
 
 -- a commit is refused for a processor that the machine lacks

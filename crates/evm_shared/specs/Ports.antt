@@ -1,5 +1,6 @@
 -- What contracts see of shares, of ports and of what lies under the lock.
-use Rattle.std.specs.Prelude.{◌≡◌, ℕ, ◌+◌, ◌-◌, ◌<◌, ◌≤◌, ◌⊎◌, ◌==◌, if◌then◌else◌, Bool, true, false, MatchBool, nat_lt, List, [], ◌∷◌, ◌++◌, length, None, Result, Ok, Err, MatchResult, ⊤}
+use Rattle.std.specs.Prelude.{◌≡◌, ℕ, ◌+◌, ◌-◌, ◌<◌, ◌≤◌, ◌⊎◌, ◌==◌, if◌then◌else◌, Bool, true, false, All, MatchBool, nat_lt, List, [], ◌∷◌, ◌++◌, length, None, Result, Ok, Err, MatchResult, ⊤}
+use mathlib.Core.List.{IsPrefix}
 use Rattle.evm_core.specs.Commit.{TakesBurst, LastAnswers, code_at, current_hart}
 use Rattle.evm_core.specs.Steps.{steps}
 use Rattle.evm_core.specs.declared.committing.Committed.{Committed}
@@ -15,6 +16,7 @@ use Rattle.evm_model.specs.declared.limits.TheConstants.{WIDE_PROFILE}
 use Rattle.evm_model.specs.declared.refusal.Refusal.{Refusal}
 use Rattle.evm_model.specs.declared.refusal.Refusal.TheVariants.{Full, NoSuchCpu, BadSize, NoMemory}
 use Rattle.evm_shared.specs.EventCounts.{BeginsWith, counts, none, plus, kind_counts}
+use Rattle.evm_shared.specs.Histories.{IsMadeBy}
 use Rattle.evm_shared.specs.Receipts.{receipt, made_events}
 use Rattle.evm_room.specs.Growth.{RefusedWithin}
 use Rattle.evm_shared.specs.declared.shared.TheConstants.{PORT_LIMIT}
@@ -31,22 +33,27 @@ pub record SharesValue : Type 0 where
 abbrev pub shares_of : ℕ → EventCounts → SharesValue
 shares_of parts amount = record { parts = parts; amount = amount }
 
--- a machine, and the book of the events since it came under the lock
+-- a machine, and the book and the history of the calls since it came under the lock
 pub record LockedValue : Type 0 where
   pub machine : State
   pub book : EventCounts
+  pub log : List Made
 
 -- the machine is its journal's replay from start, which has all lines, and its journal has as many events of each kind as base and book,
--- those of base first
-pub record IsAccounted (start : State) (base : EventCounts) (machine : State) (book : EventCounts) : Type 0 where
+-- those of base first; the calls of the log have made it of the one that came under the lock, which is a replay from start, too
+pub record IsAccounted (start begun : State) (base : EventCounts) (machine : State) (book : EventCounts) (log : List Made) : Type 0 where
   pub replays : IsReplayOf start machine
   pub lines : WIDE_PROFILE ≤ start.boot.profile
   pub counted : kind_counts machine.journal ≡ plus base book
   pub begins : BeginsWith base machine.journal
+  pub opened : IsReplayOf start begun
+  pub made : IsMadeBy begun log machine
 
--- the events made through it, its receipts and the room for more, the journal's length when it was made, and its marks
+-- the events made through it, the history as its last call left it, its receipts and the room for more, the journal's length when
+-- it was made, and its marks
 pub record PortValue : Type 0 where
   pub share : EventCounts
+  pub log : List Made
   pub receipts : List Receipt
   pub room : ℕ
   pub since : ℕ
@@ -55,12 +62,17 @@ pub record PortValue : Type 0 where
 
 -- a port that was just made
 abbrev pub fresh_port : ℕ → ℕ → PortValue
-fresh_port receipts since = record { share = none; receipts = []; room = receipts; since = since; full = false; short = false }
+fresh_port receipts since = record { share = none; log = []; receipts = []; room = receipts; since = since; full = false; short = false }
 
 -- what all of them have made
 abbrev pub made_by : List PortValue → EventCounts
 made_by [] = none
 made_by (p ∷ ports) = plus p.share (made_by ports)
+
+-- the end: the calls that have made the machine, and those that each port has seen, are beginnings of one history
+abbrev pub EndsHistory : State → State → List PortValue → Type 0
+EndsHistory opened machine ports =
+    (log : List Made) × (all : List Made) × IsMadeBy opened log machine × IsPrefix log all × All (λ p. IsPrefix p.log all) ports
 
 -- no machine: it has no processor
 abbrev pub no_machine : State
@@ -86,14 +98,19 @@ RefusesPorts boot ports receipts _ = ⊥
 abbrev pub recorded : ℕ → Made → PortValue → PortValue
 recorded position made p = if p.room == 0 then p else (record p { receipts = p.receipts ++ receipt position made ∷ []; room = p.room - 1 })
 
--- a call that was accepted on this machine: the share has grown by these counts, and there is a receipt at the journal's end
-abbrev pub Records : State → Made → EventCounts → PortValue → PortValue → Type 0
-Records before made more old new = new ≡ recorded (length before.journal) made (record old { share = plus old.share more })
+-- with this history
+abbrev pub with_log : List Made → PortValue → PortValue
+with_log log p = record p { log = log }
+
+-- a call that was accepted on this machine: the history goes on with it, the share has grown by these counts, and there is a receipt
+-- at the journal's end
+abbrev pub Records : List Made → State → Made → EventCounts → PortValue → PortValue → Type 0
+Records log before made more old new = new ≡ recorded (length before.journal) made (record old { share = plus old.share more; log = log ++ made ∷ [] })
 
 -- a deliver that took these lines of processor c: where there are any, they are its Bells
-abbrev pub Delivers : State → ℕ → ℕ → PortValue → PortValue → Type 0
-Delivers before c word old new =
-    MatchBool (word == 0) (new ≡ old) (Records before (Bells c word) (counts 0 (length (made_events (Bells c word))) 0) old new)
+abbrev pub Delivers : List Made → State → ℕ → ℕ → PortValue → PortValue → Type 0
+Delivers log before c word old new =
+    MatchBool (word == 0) (new ≡ with_log log old) (Records log before (Bells c word) (counts 0 (length (made_events (Bells c word))) 0) old new)
 
 -- a call that was refused: a Full sets the mark full, and nothing else is changed
 abbrev pub marked : Refusal → PortValue → PortValue
@@ -112,9 +129,9 @@ IsMarked _ p = Unit {0}
 
 -- ---- what a call found under the lock
 
--- a machine that is its journal's replay from start, and of which this holds
-abbrev pub Found : State → (State → Type 0) → Type 0
-Found start such = (before : State) × IsReplayOf start before × such before
+-- all calls so far, of which these were known, the machine that they have made of start, and what holds of both
+abbrev pub Found : State → List Made → (List Made → State → Type 0) → Type 0
+Found start known such = (log : List Made) × (before : State) × IsPrefix known log × IsMadeBy start log before × such log before
 
 -- a commit of a burst on processor c of this machine: the Steps that are taken of it and one more, and all that it answers
 abbrev pub IsCommit : State → ℕ → Speculated → Committed → Type 0
@@ -144,21 +161,21 @@ with_room (Err why) room = Err why
 
 abbrev pub MakesSteps : State → ℕ → Speculated → Result Committed Refusal → PortValue → PortValue → Type 0
 MakesSteps start c burst result old new =
-    Found start (λ before. MatchResult result
-    (λ done. IsCommit before c burst done × Records before (Steps c done.steps) (counts done.steps 0 0) old new)
-    (λ why. (apply before (Step c) ≡ Err why) × (new ≡ marked why old)))
+    Found start old.log (λ log before. MatchResult result
+    (λ done. IsCommit before c burst done × Records log before (Steps c done.steps) (counts done.steps 0 0) old new)
+    (λ why. (apply before (Step c) ≡ Err why) × (new ≡ marked why (with_log log old))))
 
 abbrev pub MakesBells : State → ℕ → ℕ → Result ℕ Refusal → PortValue → PortValue → Type 0
 MakesBells start cpus c result old new =
-    Found start (λ before. MatchResult result
-    (λ word. HasBellRoom before × Delivers before c word old new)
-    (λ why. RefusesBells before cpus c why × (new ≡ marked_short why old)))
+    Found start old.log (λ log before. MatchResult result
+    (λ word. HasBellRoom before × Delivers log before c word old new)
+    (λ why. RefusesBells before cpus c why × (new ≡ marked_short why (with_log log old))))
 
 abbrev pub MakesOne : State → Event → Result Answer Refusal → PortValue → PortValue → Type 0
 MakesOne start event result old new =
-    Found start (λ before. MatchResult result
-    (λ answer. Accepts before event answer × Records before (One event) (kind_counts (event ∷ [])) old new)
-    (λ why. (apply before event ≡ Err why) × (new ≡ marked why old)))
+    Found start old.log (λ log before. MatchResult result
+    (λ answer. Accepts before event answer × Records log before (One event) (kind_counts (event ∷ [])) old new)
+    (λ why. (apply before event ≡ Err why) × (new ≡ marked why (with_log log old))))
 
 -- ---- why a call on processor c is refused: Full, or no such processor
 

@@ -5,6 +5,7 @@ ghost use Rattle.evm_shared.specs.Receipts.{AreApart, IsBefore, IsTrueReceipt};
 ghost use Rattle.evm_shared.specs.declared.receipt.Receipt.{Receipt as ReceiptValue};
 
 use crate::cursor::Cursor;
+use crate::locked::Origin;
 use crate::port::Port;
 use crate::receipt::Receipt;
 use evm_core::Machine;
@@ -68,9 +69,9 @@ impl Walk {
 }
 
 // The first receipt of a port that is not true or not behind those before it, or their number.
-fn first_untrue<D: Device, S: Ledger, B: Ledger, T: Ledger>(
+fn first_untrue<D: Device, O: Origin, S: Ledger, B: Ledger, T: Ledger>(
     machine: &Machine<D>,
-    port: &Port<S, B, T>,
+    port: &Port<O, S, B, T>,
 ) -> usize
     ensures within { result ≤ length port.now.receipts }
     ensures turn { AreInTurn machine.now.journal port.now result }
@@ -127,8 +128,8 @@ fn first_shared(others: &[Receipt], receipts: &[Receipt], limit: usize) -> usize
 }
 
 // The first of `limit` receipts that shares a position with one of other ports, or `limit`. The positions of each port rise.
-fn first_shared_by_ports<S: Ledger, B: Ledger, T: Ledger>(
-    others: &[&Port<S, B, T>],
+fn first_shared_by_ports<O: Origin, S: Ledger, B: Ledger, T: Ledger>(
+    others: &[&Port<O, S, B, T>],
     receipts: &[Receipt],
     limit: usize,
 ) -> usize
@@ -147,9 +148,9 @@ fn first_shared_by_ports<S: Ledger, B: Ledger, T: Ledger>(
 }
 
 // Whether the marks of a port are true.
-fn marks_are_true<D: Device, S: Ledger, B: Ledger, T: Ledger>(
+fn marks_are_true<D: Device, O: Origin, S: Ledger, B: Ledger, T: Ledger>(
     machine: &Machine<D>,
-    port: &Port<S, B, T>,
+    port: &Port<O, S, B, T>,
 ) -> bool
     ensures { (result ≡ true) ↔ AreTrueMarks machine.now port.now }
 {
@@ -164,10 +165,10 @@ fn marks_are_true<D: Device, S: Ledger, B: Ledger, T: Ledger>(
 }
 
 // The first place of a port that does not hold beside other ports, whose positions rise.
-fn first_break<D: Device, S: Ledger, B: Ledger, T: Ledger>(
+fn first_break<D: Device, O: Origin, S: Ledger, B: Ledger, T: Ledger>(
     machine: &Machine<D>,
-    others: &[&Port<S, B, T>],
-    port: &Port<S, B, T>,
+    others: &[&Port<O, S, B, T>],
+    port: &Port<O, S, B, T>,
 ) -> Option<usize>
     requires { All (λ p. AreRising p.receipts (length p.receipts)) (lent others.now) }
     ensures { MatchOption result (PortHolds machine.now (lent others.now) port.now) (λ index. IsFirstBreak machine.now (lent others.now) port.now index) }
@@ -192,9 +193,9 @@ fn first_break<D: Device, S: Ledger, B: Ledger, T: Ledger>(
 /// # Errors
 ///
 /// The first receipt or mark, by port and then by index, that breaks this beside those before it.
-pub fn check_receipts<D: Device, S: Ledger, B: Ledger, T: Ledger>(
+pub fn check_receipts<D: Device, O: Origin, S: Ledger, B: Ledger, T: Ledger>(
     machine: &Machine<D>,
-    ports: &[&Port<S, B, T>],
+    ports: &[&Port<O, S, B, T>],
 ) -> Result<(), Mismatch>
     ensures { MatchResult result (λ _. PortsHold machine.now (lent ports.now) (length ports.now)) (λ mismatch. IsFirstMismatch machine.now (lent ports.now) mismatch) }
 {

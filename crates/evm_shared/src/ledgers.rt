@@ -1,17 +1,20 @@
-ghost use Rattle.std.specs.Prelude.{◌≡◌, ℕ, ◌+◌, ◌<◌, ◌≤◌};
+ghost use Rattle.std.specs.Prelude.{◌≡◌, ℕ, ◌+◌, ◌<◌, ◌≤◌, []};
 ghost use Rattle.evm_shared.specs.EventCounts.{AtMost, none, plus};
 ghost use Rattle.evm_shared.specs.Ports.{shares_of};
 
 use crate::event_counts::EventCounts;
+use crate::history::{BlankHistory, History};
+use crate::locked::Origin;
 use std::marker::Model;
 use std::sync::ledger::{Blank, Book, Ledger, Share};
 
-/// The three ledgers, not opened yet: of Steps, of Bells and of other events.
+/// The three ledgers, not opened yet: of Steps, of Bells and of other events. Beside them a history with no call.
 #[derive(Drop)]
 pub struct Blanks {
     pub steps: Blank,
     pub bells: Blank,
     pub others: Blank,
+    pub history: BlankHistory,
 }
 
 /// What all shares have counted.
@@ -50,14 +53,18 @@ impl<S: Ledger, B: Ledger, T: Ledger> Model for Shares<S, B, T> {
 }
 
 impl Blanks {
-    /// The books, and all shares in one.
-    pub(crate) fn open<S: Ledger, B: Ledger, T: Ledger>(self) -> (Books<S, B, T>, Shares<S, B, T>)
+    /// The books, all shares in one, and the history.
+    pub(crate) fn open<O: Origin, S: Ledger, B: Ledger, T: Ledger>(
+        self,
+    ) -> (Books<S, B, T>, Shares<S, B, T>, History<O>)
         requires steps { (self.steps.name ≡ S.name) × (self.steps.parts ≡ S.parts) }
         requires bells { (self.bells.name ≡ B.name) × (self.bells.parts ≡ B.parts) }
         requires others { (self.others.name ≡ T.name) × (self.others.parts ≡ T.parts) }
+        requires history { self.history ≡ O.book }
         requires alike { (B.parts ≡ S.parts) × (T.parts ≡ S.parts) }
         ensures book { result.0 ≡ none }
         ensures shares { result.1 ≡ shares_of S.parts none }
+        ensures history { result.2 ≡ [] }
     {
         let (steps, steps_share) = self.steps.open::<S>();
         let (bells, bells_share) = self.bells.open::<B>();
@@ -73,6 +80,7 @@ impl Blanks {
                 bells: bells_share,
                 others: others_share,
             },
+            self.history.open::<O>(),
         )
     }
 }

@@ -4,6 +4,7 @@
 mod checking;
 mod cursor;
 mod event_counts;
+mod history;
 mod ledgers;
 mod locked;
 mod lookahead;
@@ -14,6 +15,7 @@ mod worker;
 
 pub use checking::{Mismatch, check_receipts};
 pub use event_counts::EventCounts;
+pub use history::BlankHistory;
 pub use ledgers::Blanks;
 pub use locked::Origin;
 pub use port::Port;

@@ -8,6 +8,7 @@ ghost use Rattle.evm_shared.specs.Ports.{HasBellRoom, MakesBells, MakesOne, Make
 ghost use Rattle.evm_shared.specs.Receipts.{made_events};
 
 use crate::event_counts::EventCounts;
+use crate::history::History;
 use crate::ledgers::Books;
 use crate::port::Port;
 use crate::receipt::Made;
@@ -17,17 +18,24 @@ use evm_dev::Device;
 use evm_exec::Burst;
 use evm_lines::LINES;
 use evm_model::{Answer, Block, Event, Refusal};
-use std::marker::{Brand, Model, PhantomData};
+use std::marker::{Brand, Model};
+use std::sync::Wait;
 use std::sync::ledger::Ledger;
 
-/// Where a machine began to be shared: the state that its journal is replayed from, and how many events it had.
+/// Where a machine began to be shared: the state that its journal is replayed from, how many events it had, the machine as
+/// it came under the lock, and the history of the calls since then.
 pub trait Origin {
     ghost use Rattle.evm_model.specs.State as model;
     ghost use Rattle.evm_shared.specs.declared.event_counts.EventCounts as declared;
+    ghost use Rattle.logbook.specs.Pages as logbook;
 
     ghost start: { model.State };
 
     ghost base: { declared.EventCounts };
+
+    ghost machine: { model.State };
+
+    ghost book: { logbook.Book };
 }
 
 impl Origin for Brand {
@@ -37,6 +45,10 @@ impl Origin for Brand {
     ghost start = { no_machine };
 
     ghost base = { none };
+
+    ghost machine = { no_machine };
+
+    ghost book = { record { number = 0; log_name = 0; cells_name = 0 } };
 }
 
 /// What lies under the lock.
@@ -44,7 +56,7 @@ impl Origin for Brand {
 pub(crate) struct Locked<D: Device, O: Origin, S: Ledger, B: Ledger, T: Ledger> {
     pub(crate) machine: Machine<D>,
     pub(crate) books: Books<S, B, T>,
-    pub(crate) of: PhantomData<O>,
+    pub(crate) history: History<O>,
 }
 
 impl<D: Device, O: Origin, S: Ledger, B: Ledger, T: Ledger> Model for Locked<D, O, S, B, T> {
@@ -52,9 +64,9 @@ impl<D: Device, O: Origin, S: Ledger, B: Ledger, T: Ledger> Model for Locked<D, 
 
     ghost Value = { LockedValue };
 
-    ghost invariant = { λ l. IsAccounted O.start O.base l.machine l.books };
+    ghost invariant = { λ l. IsAccounted O.start O.machine O.base l.machine l.books l.history };
 
-    ghost view = { λ l. record { machine = l.machine; book = l.books } };
+    ghost view = { λ l. record { machine = l.machine; book = l.books; log = l.history } };
 }
 
 // A Bell of a processor for each line of a word, in rising order. Returns how many.
@@ -81,9 +93,10 @@ fn ring_all<D: Device>(machine: &mut Machine<D>, cpu: u8, word: u64) -> u32
 
 impl<D: Device, O: Origin, S: Ledger, B: Ledger, T: Ledger> Locked<D, O, S, B, T> {
     // Takes the lines of a processor, and makes a Bell of each.
-    pub(crate) fn deliver(
+    pub(crate) fn deliver<R: Wait>(
         &mut self,
-        port: &mut Port<S, B, T>,
+        rt: &R,
+        port: &mut Port<O, S, B, T>,
         bells: &Bells,
         taker: &mut Taker,
         cpu: u8,
@@ -91,10 +104,11 @@ impl<D: Device, O: Origin, S: Ledger, B: Ledger, T: Ledger> Locked<D, O, S, B, T
         requires { taker.old.bells ≡ bells.now.id }
         ensures taken { MatchResult result (λ word. taker.new.taken ≡ taker.old.taken ++ (cpu, word) ∷ []) (λ why. taker.new ≡ taker.old) }
         ensures seat { taker.new.bells ≡ taker.old.bells }
-        ensures call { MakesBells O.start bells.now.cpus cpu result port.old port.new }
-        ensures refused { IfErr result (λ why. RefusesEither O.start bells.now.cpus cpu why) }
+        ensures call { MakesBells O.machine bells.now.cpus cpu result port.old port.new }
+        ensures refused { IfErr result (λ why. RefusesEither O.machine bells.now.cpus cpu why) }
     {
         self.machine.rules();
+        port.see(rt, &self.history);
         if self.machine.room() < u64::from(LINES) {
             port.mark_short();
             return Err(Refusal::Full);
@@ -108,23 +122,26 @@ impl<D: Device, O: Origin, S: Ledger, B: Ledger, T: Ledger> Locked<D, O, S, B, T
             let count = ring_all(&mut self.machine, cpu, word);
             let _count = self.machine.event_count();
             port.count(&mut self.books, EventCounts::bells(count));
+            port.append(rt, &mut self.history, &Made::Bells(cpu, word));
             port.record(position, Made::Bells(cpu, word));
         }
         Ok(word)
     }
 
     // The Steps of a burst, and one more.
-    pub(crate) fn commit_into(
+    pub(crate) fn commit_into<R: Wait>(
         &mut self,
-        port: &mut Port<S, B, T>,
+        rt: &R,
+        port: &mut Port<O, S, B, T>,
         cpu: u8,
         burst: &Burst,
         done: &mut Committed,
     ) -> Result<(), Refusal>
-        ensures call { MakesSteps O.start cpu burst.now (with_room result done.new) port.old port.new }
-        ensures refused { IfErr result (λ why. RefusesCpu O.start cpu why) }
+        ensures call { MakesSteps O.machine cpu burst.now (with_room result done.new) port.old port.new }
+        ensures refused { IfErr result (λ why. RefusesCpu O.machine cpu why) }
     {
         self.machine.rules();
+        port.see(rt, &self.history);
         let position = self.machine.event_count();
         match self.machine.commit_into(cpu, burst, done) {
             Err(refusal) => {
@@ -134,6 +151,7 @@ impl<D: Device, O: Origin, S: Ledger, B: Ledger, T: Ledger> Locked<D, O, S, B, T
             Ok(()) => {
                 let _count = self.machine.event_count();
                 port.count(&mut self.books, EventCounts::steps(done.steps));
+                port.append(rt, &mut self.history, &Made::Steps(cpu, done.steps));
                 port.record(position, Made::Steps(cpu, done.steps));
                 Ok(())
             }
@@ -141,21 +159,27 @@ impl<D: Device, O: Origin, S: Ledger, B: Ledger, T: Ledger> Locked<D, O, S, B, T
     }
 
     // A tick.
-    pub(crate) fn tick(&mut self, port: &mut Port<S, B, T>) -> Result<Answer, Refusal>
-        ensures call { MakesOne O.start Event.Tick result port.old port.new }
+    pub(crate) fn tick<R: Wait>(
+        &mut self,
+        rt: &R,
+        port: &mut Port<O, S, B, T>,
+    ) -> Result<Answer, Refusal>
+        ensures call { MakesOne O.machine Event.Tick result port.old port.new }
         ensures full { IfErr result (λ why. why ≡ Refusal.Full) }
     {
-        self.one(port, &Event::Tick)
+        self.one(rt, port, &Event::Tick)
     }
 
     // One event.
-    pub(crate) fn one(
+    pub(crate) fn one<R: Wait>(
         &mut self,
-        port: &mut Port<S, B, T>,
+        rt: &R,
+        port: &mut Port<O, S, B, T>,
         event: &Event<&Block>,
     ) -> Result<Answer, Refusal>
-        ensures { MakesOne O.start (event_lent event.now) result port.old port.new }
+        ensures { MakesOne O.machine (event_lent event.now) result port.old port.new }
     {
+        port.see(rt, &self.history);
         let position = self.machine.event_count();
         match self.machine.apply(*event) {
             Err(why) => {
@@ -165,7 +189,9 @@ impl<D: Device, O: Origin, S: Ledger, B: Ledger, T: Ledger> Locked<D, O, S, B, T
             Ok(answer) => {
                 let _count = self.machine.event_count();
                 port.count(&mut self.books, EventCounts::one(event));
-                port.record(position, Made::One(event.copied()));
+                let made = Made::One(event.copied());
+                port.append(rt, &mut self.history, &made);
+                port.record(position, made);
                 Ok(answer)
             }
         }

@@ -1,9 +1,11 @@
-ghost use Rattle.std.specs.Prelude.{◌≡◌, ◌≢◌, ◌+◌, ◌<◌, ◌≤◌, [], ◌∷◌, ◌++◌, false, length, replicate, IfErr, IfOk, MatchResult};
+ghost use Rattle.std.specs.Prelude.{◌≡◌, ◌≢◌, ◌+◌, ◌<◌, ◌≤◌, [], ◌∷◌, ◌++◌, false, All, length, replicate, IfErr, IfOk, MatchResult};
+ghost use mathlib.Core.List.{IsPrefix};
 ghost use Rattle.evm_model.specs.Replay.{IsReplayOf};
 ghost use Rattle.evm_shared.specs.EventCounts.{BeginsWith, FitWords, kind_counts, none, plus};
-ghost use Rattle.evm_shared.specs.Ports.{MakesBells, MakesOne, MakesSteps, RefusesCpu, RefusesEither, RefusesPorts, bad_ports, fresh_port, lacks_lines, made_by, shares_of, with_room};
+ghost use Rattle.evm_shared.specs.Ports.{EndsHistory, PortValue, MakesBells, MakesOne, MakesSteps, RefusesCpu, RefusesEither, RefusesPorts, bad_ports, fresh_port, lacks_lines, made_by, shares_of, with_room};
 
 use crate::event_counts::EventCounts;
+use crate::history::{History, Sight};
 use crate::ledgers::{Blanks, Books, Shares};
 use crate::locked::{Locked, Origin};
 use crate::port::Port;
@@ -15,7 +17,7 @@ use evm_model::{Answer, Event, Refusal, WIDE_PROFILE};
 use evm_room::with_room;
 use std::alloc::Global;
 use std::hint::spin_loop;
-use std::marker::{Model, PhantomData};
+use std::marker::Model;
 use std::sync::ledger::Ledger;
 use std::sync::{Mutex, MutexGuard, Wait};
 
@@ -53,9 +55,9 @@ pub struct Refused<D: Device> {
 
 /// The machine, all ports, and how many events were made through them.
 #[derive(Drop)]
-pub struct Finished<D: Device, S: Ledger, B: Ledger, T: Ledger> {
+pub struct Finished<D: Device, O: Origin, S: Ledger, B: Ledger, T: Ledger> {
     pub machine: Machine<D>,
-    pub ports: Vec<Port<S, B, T>>,
+    pub ports: Vec<Port<O, S, B, T>>,
     pub totals: EventCounts,
 }
 
@@ -63,7 +65,7 @@ pub struct Finished<D: Device, S: Ledger, B: Ledger, T: Ledger> {
 #[derive(Drop)]
 pub struct Unfinished<D: Device, O: Origin, S: Ledger, B: Ledger, T: Ledger> {
     pub shared: Shared<D, O, S, B, T>,
-    pub ports: Vec<Port<S, B, T>>,
+    pub ports: Vec<Port<O, S, B, T>>,
 }
 
 // Whether a machine has fewer lines than bells have, by its profile.
@@ -74,14 +76,16 @@ fn lacks_lines<D: Device>(machine: &Machine<D>) -> bool
 }
 
 // New ports, each with one part of the ledgers and room for `receipts` receipts.
-fn new_ports<S: Ledger, B: Ledger, T: Ledger>(
+fn new_ports<O: Origin, S: Ledger, B: Ledger, T: Ledger>(
     alloc: Global,
     mut all: Shares<S, B, T>,
+    history: &History<O>,
     ports: u8,
     receipts: u32,
     since: u64,
-) -> Result<Vec<Port<S, B, T>>, evm_room::Refused>
-    requires { all ≡ shares_of ports none }
+) -> Result<Vec<Port<O, S, B, T>>, evm_room::Refused>
+    requires shares { all ≡ shares_of ports none }
+    requires history { history.now ≡ [] }
     ensures made { IfOk result (λ made. made.items ≡ replicate ports (fresh_port receipts since)) }
     ensures refused { IfErr result (λ asked. asked ≤ ports + receipts) }
 {
@@ -90,6 +94,7 @@ fn new_ports<S: Ledger, B: Ledger, T: Ledger>(
         made.push_reserved(Port {
             shares: all.one(),
             share: EventCounts::none(),
+            log: history.log(),
             receipts: with_room(alloc, receipts as usize)?,
             room: receipts as usize,
             since,
@@ -113,9 +118,11 @@ impl<D: Device, O: Origin, S: Ledger, B: Ledger, T: Ledger> Shared<D, O, S, B, T
         ports: u8,
         receipts: u32,
         blanks: Blanks,
-    ) -> Result<(Shared<D, O, S, B, T>, Vec<Port<S, B, T>>), Refused<D>>
+    ) -> Result<(Shared<D, O, S, B, T>, Vec<Port<O, S, B, T>>), Refused<D>>
         requires replays { IsReplayOf O.start machine }
         requires base { kind_counts machine.journal ≡ O.base }
+        requires machine { machine ≡ O.machine }
+        requires history { blanks.history ≡ O.book }
         requires steps { (blanks.steps.name ≡ S.name) × (blanks.steps.parts ≡ S.parts) × (S.parts ≡ ports) }
         requires bells { (blanks.bells.name ≡ B.name) × (blanks.bells.parts ≡ B.parts) × (B.parts ≡ ports) }
         requires others { (blanks.others.name ≡ T.name) × (blanks.others.parts ≡ T.parts) × (T.parts ≡ ports) }
@@ -132,8 +139,8 @@ impl<D: Device, O: Origin, S: Ledger, B: Ledger, T: Ledger> Shared<D, O, S, B, T
             });
         }
         let since = machine.event_count();
-        let (books, all) = blanks.open::<S, B, T>();
-        let made = match new_ports(alloc, all, ports, receipts, since) {
+        let (books, all, history) = blanks.open::<O, S, B, T>();
+        let made = match new_ports(alloc, all, &history, ports, receipts, since) {
             Ok(made) => made,
             Err(refused) => {
                 refused.within();
@@ -146,7 +153,7 @@ impl<D: Device, O: Origin, S: Ledger, B: Ledger, T: Ledger> Shared<D, O, S, B, T
         let locked = Mutex::new(Locked {
             machine,
             books,
-            of: PhantomData,
+            history,
         });
         Ok((Shared { locked, ports }, made))
     }
@@ -173,15 +180,15 @@ impl<D: Device, O: Origin, S: Ledger, B: Ledger, T: Ledger> Shared<D, O, S, B, T
     pub fn commit_into<R: Wait>(
         &self,
         rt: &R,
-        port: &mut Port<S, B, T>,
+        port: &mut Port<O, S, B, T>,
         cpu: u8,
         burst: &Burst,
         done: &mut Committed,
     ) -> Result<(), Refusal>
-        ensures call { MakesSteps O.start cpu burst.now (with_room result done.new) port.old port.new }
-        ensures refused { IfErr result (λ why. RefusesCpu O.start cpu why) }
+        ensures call { MakesSteps O.machine cpu burst.now (with_room result done.new) port.old port.new }
+        ensures refused { IfErr result (λ why. RefusesCpu O.machine cpu why) }
     {
-        self.hold(rt).commit_into(port, cpu, burst, done)
+        self.hold(rt).commit_into(rt, port, cpu, burst, done)
     }
 
     /// As `commit_into`, with what it did as the answer.
@@ -192,12 +199,12 @@ impl<D: Device, O: Origin, S: Ledger, B: Ledger, T: Ledger> Shared<D, O, S, B, T
     pub fn commit<R: Wait>(
         &self,
         rt: &R,
-        port: &mut Port<S, B, T>,
+        port: &mut Port<O, S, B, T>,
         cpu: u8,
         burst: &Burst,
     ) -> Result<Committed, Refusal>
-        ensures call { MakesSteps O.start cpu burst.now result port.old port.new }
-        ensures refused { IfErr result (λ why. RefusesCpu O.start cpu why) }
+        ensures call { MakesSteps O.machine cpu burst.now result port.old port.new }
+        ensures refused { IfErr result (λ why. RefusesCpu O.machine cpu why) }
     {
         let mut done = Committed::none();
         self.commit_into(rt, port, cpu, burst, &mut done)?;
@@ -214,7 +221,7 @@ impl<D: Device, O: Origin, S: Ledger, B: Ledger, T: Ledger> Shared<D, O, S, B, T
     pub fn deliver<R: Wait>(
         &self,
         rt: &R,
-        port: &mut Port<S, B, T>,
+        port: &mut Port<O, S, B, T>,
         bells: &Bells,
         taker: &mut Taker,
         cpu: u8,
@@ -222,10 +229,10 @@ impl<D: Device, O: Origin, S: Ledger, B: Ledger, T: Ledger> Shared<D, O, S, B, T
         requires { taker.old.bells ≡ bells.now.id }
         ensures taken { MatchResult result (λ word. taker.new.taken ≡ taker.old.taken ++ (cpu, word) ∷ []) (λ why. taker.new ≡ taker.old) }
         ensures seat { taker.new.bells ≡ taker.old.bells }
-        ensures call { MakesBells O.start bells.now.cpus cpu result port.old port.new }
-        ensures refused { IfErr result (λ why. RefusesEither O.start bells.now.cpus cpu why) }
+        ensures call { MakesBells O.machine bells.now.cpus cpu result port.old port.new }
+        ensures refused { IfErr result (λ why. RefusesEither O.machine bells.now.cpus cpu why) }
     {
-        self.hold(rt).deliver(port, bells, taker, cpu)
+        self.hold(rt).deliver(rt, port, bells, taker, cpu)
     }
 
     /// Makes one Tick. Takes no memory.
@@ -233,11 +240,11 @@ impl<D: Device, O: Origin, S: Ledger, B: Ledger, T: Ledger> Shared<D, O, S, B, T
     /// # Errors
     ///
     /// `Full`.
-    pub fn tick<R: Wait>(&self, rt: &R, port: &mut Port<S, B, T>) -> Result<Answer, Refusal>
-        ensures call { MakesOne O.start Event.Tick result port.old port.new }
+    pub fn tick<R: Wait>(&self, rt: &R, port: &mut Port<O, S, B, T>) -> Result<Answer, Refusal>
+        ensures call { MakesOne O.machine Event.Tick result port.old port.new }
         ensures refused { IfErr result (λ why. why ≡ Refusal.Full) }
     {
-        self.hold(rt).tick(port)
+        self.hold(rt).tick(rt, port)
     }
 
     /// Makes one event of any kind. Takes no memory.
@@ -248,30 +255,33 @@ impl<D: Device, O: Origin, S: Ledger, B: Ledger, T: Ledger> Shared<D, O, S, B, T
     pub fn command<R: Wait>(
         &self,
         rt: &R,
-        port: &mut Port<S, B, T>,
+        port: &mut Port<O, S, B, T>,
         event: &Event,
     ) -> Result<Answer, Refusal>
-        ensures { MakesOne O.start event.now result port.old port.new }
+        ensures { MakesOne O.machine event.now result port.old port.new }
     {
-        self.hold(rt).one(port, &event.lend())
+        self.hold(rt).one(rt, port, &event.lend())
     }
 
     // The machine and its ports, which are all of them, with the totals. It is never inlined into `finish`: LLVM splits a machine
     // into its bytes, which are many, and doesn't end, where one body both opens the lock and hands it back.
     #[inline(never)]
-    fn open(self, mut ports: Vec<Port<S, B, T>>) -> Finished<D, S, B, T>
+    fn open(self, mut ports: Vec<Port<O, S, B, T>>) -> Finished<D, O, S, B, T>
         requires all { length ports.items ≡ self }
         ensures machine { IsReplayOf O.start result.machine × (kind_counts result.machine.journal ≡ plus O.base result.totals) }
         ensures begins { BeginsWith O.base result.machine.journal }
         ensures totals { result.totals ≡ made_by ports.items }
         ensures ports { result.ports.items ≡ ports.items }
+        ensures history { EndsHistory O.machine result.machine ports.items }
     {
         let Shared { locked, ports: _ } = self;
         let Locked {
             machine,
             mut books,
-            ..
+            history,
         } = locked.into_inner();
+        let mut sight = history.sight();
+        see_all(&mut sight, ports.as_slice());
         let _count = machine.event_count();
         let totals = sum_all(&mut books, ports.as_mut_slice());
         Finished {
@@ -288,12 +298,14 @@ impl<D: Device, O: Origin, S: Ledger, B: Ledger, T: Ledger> Shared<D, O, S, B, T
     /// What was handed in, if a port is missing.
     pub fn finish(
         self,
-        ports: Vec<Port<S, B, T>>,
-    ) -> Result<Finished<D, S, B, T>, Unfinished<D, O, S, B, T>>
+        ports: Vec<Port<O, S, B, T>>,
+    ) -> Result<Finished<D, O, S, B, T>, Unfinished<D, O, S, B, T>>
         ensures machine { IfOk result (λ done. IsReplayOf O.start done.machine × (kind_counts done.machine.journal ≡ plus O.base done.totals)) }
         // the events that it had are the first ones
         ensures begins { IfOk result (λ done. BeginsWith O.base done.machine.journal) }
         ensures totals { IfOk result (λ done. done.totals ≡ made_by ports.items) }
+        // the calls that have made it, and those that each port has seen, begin one history
+        ensures history { IfOk result (λ done. EndsHistory O.machine done.machine ports.items) }
         ensures ports { MatchResult result (λ done. done.ports.items ≡ ports.items) (λ back. (back.shared ≡ self) × (back.ports.items ≡ ports.items)) }
         ensures all { MatchResult result (λ done. length ports.items ≡ self) (λ back. length ports.items ≢ self) }
     {
@@ -307,10 +319,23 @@ impl<D: Device, O: Origin, S: Ledger, B: Ledger, T: Ledger> Shared<D, O, S, B, T
     }
 }
 
+// All that the ports have seen.
+fn see_all<O: Origin, S: Ledger, B: Ledger, T: Ledger>(
+    sight: &mut Sight<O>,
+    ports: &[Port<O, S, B, T>],
+)
+    ensures more { IsPrefix sight.old sight.new }
+    ensures all { All (λ (p : PortValue). IsPrefix p.log sight.new) ports.now }
+{
+    for port in ports {
+        sight.learn(&port.log);
+    }
+}
+
 // Made all ports made, which is what the books say.
-fn sum_all<S: Ledger, B: Ledger, T: Ledger>(
+fn sum_all<O: Origin, S: Ledger, B: Ledger, T: Ledger>(
     books: &mut Books<S, B, T>,
-    ports: &mut [Port<S, B, T>],
+    ports: &mut [Port<O, S, B, T>],
 ) -> EventCounts
     requires some { 0 < length ports.old }
     requires fits { FitWords books.old }
@@ -326,9 +351,9 @@ fn sum_all<S: Ledger, B: Ledger, T: Ledger>(
 }
 
 // Each port lends its share to the first, which then has all parts.
-fn sum_rest<S: Ledger, B: Ledger, T: Ledger>(
+fn sum_rest<O: Origin, S: Ledger, B: Ledger, T: Ledger>(
     books: &mut Books<S, B, T>,
-    ports: &mut [Port<S, B, T>],
+    ports: &mut [Port<O, S, B, T>],
     seen: &mut Shares<S, B, T>,
     sum: EventCounts,
 ) -> EventCounts

@@ -30,15 +30,15 @@ pub trait Gate: Sync {
 /// A processor that a thread drives, with a port and a taker. What it commits was done ahead of the machine, from the hart
 /// that its last commit answered, by the words of a cache that notes the code after each commit.
 #[derive(Drop)]
-pub struct Worker<S: Ledger, B: Ledger, T: Ledger> {
+pub struct Worker<O: Origin, S: Ledger, B: Ledger, T: Ledger> {
     cpu: u8,
-    port: Port<S, B, T>,
+    port: Port<O, S, B, T>,
     taker: Taker,
     ahead: Lookahead,
     refused: Option<Refusal>,
 }
 
-impl<S: Ledger, B: Ledger, T: Ledger> Model for Worker<S, B, T> {
+impl<O: Origin, S: Ledger, B: Ledger, T: Ledger> Model for Worker<O, S, B, T> {
     ghost use Rattle.evm_shared.specs.Workers.{WorkerValue};
 
     ghost Value = { WorkerValue };
@@ -64,7 +64,9 @@ fn lesser_refusal(first: Option<Refusal>, second: Option<Refusal>) -> Option<Ref
 }
 
 // The refusal of the least number.
-fn least_refusal<S: Ledger, B: Ledger, T: Ledger>(workers: &[Worker<S, B, T>]) -> Option<Refusal>
+fn least_refusal<O: Origin, S: Ledger, B: Ledger, T: Ledger>(
+    workers: &[Worker<O, S, B, T>],
+) -> Option<Refusal>
     ensures { result ≡ least_refusal workers.now }
 {
     match workers.split_first() {
@@ -73,7 +75,7 @@ fn least_refusal<S: Ledger, B: Ledger, T: Ledger>(workers: &[Worker<S, B, T>]) -
     }
 }
 
-impl<S: Ledger, B: Ledger, T: Ledger> Worker<S, B, T> {
+impl<O: Origin, S: Ledger, B: Ledger, T: Ledger> Worker<O, S, B, T> {
     /// A worker of a processor, which has made no turn, with an empty cache.
     ///
     /// # Errors
@@ -82,9 +84,9 @@ impl<S: Ledger, B: Ledger, T: Ledger> Worker<S, B, T> {
     pub fn new(
         alloc: Global,
         cpu: u8,
-        port: Port<S, B, T>,
+        port: Port<O, S, B, T>,
         taker: Taker,
-    ) -> Result<Worker<S, B, T>, (Port<S, B, T>, Taker)>
+    ) -> Result<Worker<O, S, B, T>, (Port<O, S, B, T>, Taker)>
         ensures parts { MatchResult result (λ w. (w.cpu ≡ cpu) × (w.port ≡ port) × (w.taker ≡ taker)) (λ back. (back.0 ≡ port) × (back.1 ≡ taker)) }
         ensures ahead { IfOk result (λ w. w.ahead ≡ nothing_ahead) }
     {
@@ -101,7 +103,7 @@ impl<S: Ledger, B: Ledger, T: Ledger> Worker<S, B, T> {
     }
 
     /// Its port and its taker.
-    pub fn into_parts(self) -> (Port<S, B, T>, Taker)
+    pub fn into_parts(self) -> (Port<O, S, B, T>, Taker)
         ensures { (result.0 ≡ self.port) × (result.1 ≡ self.taker) }
     {
         let Worker { port, taker, .. } = self;
@@ -109,7 +111,7 @@ impl<S: Ledger, B: Ledger, T: Ledger> Worker<S, B, T> {
     }
 
     // One turn: before, deliver, speculate, commit, note, after.
-    fn turn<D: Device, O: Origin, R: Wait, G: Gate>(
+    fn turn<D: Device, R: Wait, G: Gate>(
         &mut self,
         rt: &R,
         shared: &Shared<D, O, S, B, T>,
@@ -119,10 +121,10 @@ impl<S: Ledger, B: Ledger, T: Ledger> Worker<S, B, T> {
     ) -> Result<(), Refusal>
         requires { self.old.taker.bells ≡ bells.now.id }
         ensures same { (self.new.cpu ≡ self.old.cpu) × (self.new.taker.bells ≡ self.old.taker.bells) × (self.new.refused ≡ self.old.refused) }
-        ensures refused { IfErr result (λ why. RefusesTurn O.start bells.now.cpus self.old self.new why) }
-        ensures reason { IfErr result (λ why. RefusesEither O.start bells.now.cpus self.old.cpu why) }
+        ensures refused { IfErr result (λ why. RefusesTurn O.machine bells.now.cpus self.old self.new why) }
+        ensures reason { IfErr result (λ why. RefusesEither O.machine bells.now.cpus self.old.cpu why) }
         ensures steps { IfOk result (λ _. self.old.port.share.steps + 1 ≤ self.new.port.share.steps) }
-        ensures made { IfOk result (λ _. MakesTurn O.start bells.now.cpus self.old self.new) }
+        ensures made { IfOk result (λ _. MakesTurn O.machine bells.now.cpus self.old self.new) }
     {
         gate.before(self.cpu, turn);
         shared.deliver(rt, &mut self.port, bells, &mut self.taker, self.cpu)?;
@@ -142,7 +144,7 @@ impl<S: Ledger, B: Ledger, T: Ledger> Worker<S, B, T> {
     }
 
     // So many turns, or those up to the first that was refused.
-    fn turns<D: Device, O: Origin, R: Wait, G: Gate>(
+    fn turns<D: Device, R: Wait, G: Gate>(
         &mut self,
         rt: &R,
         shared: &Shared<D, O, S, B, T>,
@@ -151,7 +153,7 @@ impl<S: Ledger, B: Ledger, T: Ledger> Worker<S, B, T> {
         gate: &G,
     )
         requires { self.old.taker.bells ≡ bells.now.id }
-        ensures { HasTurned O.start bells.now.cpus turns self.old self.new }
+        ensures { HasTurned O.machine bells.now.cpus turns self.old self.new }
     {
         self.refused = None;
         for turn in 0..turns {
@@ -181,13 +183,13 @@ impl<
         &self,
         rt: &R,
         bells: &Bells,
-        workers: &mut [Worker<S, B, T>],
+        workers: &mut [Worker<O, S, B, T>],
         turns: u32,
         gate: &G,
     ) -> Result<(), Refusal>
         requires bells { All (λ (w : WorkerValue). w.taker.bells ≡ bells.now.id) workers.old }
         ensures count { length workers.new ≡ length workers.old }
-        ensures turns { (i : ℕ) (d : WorkerValue) → i < length workers.old → HasTurned O.start bells.now.cpus turns (slice_index_or workers.old i d) (slice_index_or workers.new i d) }
+        ensures turns { (i : ℕ) (d : WorkerValue) → i < length workers.old → HasTurned O.machine bells.now.cpus turns (slice_index_or workers.old i d) (slice_index_or workers.new i d) }
         ensures bells { All (λ (w : WorkerValue). w.taker.bells ≡ bells.now.id) workers.new }
         ensures least { MatchResult result (λ _. least_refusal workers.new ≡ Option.None) (λ why. least_refusal workers.new ≡ Option.Some why) }
     {
@@ -199,9 +201,9 @@ impl<
             rt,
             workers,
             threads,
-            &|_, w: &mut Worker<S, B, T>|
+            &|_, w: &mut Worker<O, S, B, T>|
                 requires { w.old.taker.bells ≡ bells.now.id }
-                ensures { HasTurned O.start bells.entry.now.cpus turns w.old w.new × (w.new.taker.bells ≡ bells.entry.now.id) }
+                ensures { HasTurned O.machine bells.entry.now.cpus turns w.old w.new × (w.new.taker.bells ≡ bells.entry.now.id) }
             { w.turns(rt, self, bells, turns, gate) },
         );
         match least_refusal(workers) {

@@ -13,8 +13,8 @@ use evm_exec::{Burst, Hart, REGISTER_COUNT};
 use evm_model::{Answer, Event, PROFILE_LIMIT, Refusal};
 use evm_ram::BASE;
 use evm_shared::{
-    Blanks, Finished, Made, Mismatch, Origin, Port, Receipt, Refused, Shared, Unfinished,
-    check_receipts,
+    BlankHistory, Blanks, Finished, Made, Mismatch, Origin, Port, Receipt, Refused, Shared,
+    Unfinished, check_receipts,
 };
 use std::alloc::Global;
 use std::marker::Brand;
@@ -50,6 +50,7 @@ fn blanks(parts: u64) -> Blanks
         steps: Blank::new(parts),
         bells: Blank::new(parts),
         others: Blank::new(parts),
+        history: BlankHistory::new(),
     }
 }
 
@@ -61,7 +62,10 @@ fn empty_burst() -> Burst {
 }
 
 // Whether a port has just these receipts.
-fn has_receipts<S: Ledger, B: Ledger, T: Ledger>(port: &Port<S, B, T>, wanted: &[Receipt]) -> bool {
+fn has_receipts<O: Origin, S: Ledger, B: Ledger, T: Ledger>(
+    port: &Port<O, S, B, T>,
+    wanted: &[Receipt],
+) -> bool {
     if port.receipts().len() != wanted.len() {
         return false;
     }
@@ -73,17 +77,17 @@ fn has_receipts<S: Ledger, B: Ledger, T: Ledger>(port: &Port<S, B, T>, wanted: &
     true
 }
 
-fn check_one<S: Ledger, B: Ledger, T: Ledger>(
+fn check_one<O: Origin, S: Ledger, B: Ledger, T: Ledger>(
     machine: &Machine<Pins>,
-    port: &Port<S, B, T>,
+    port: &Port<O, S, B, T>,
 ) -> Result<(), Mismatch> {
     check_receipts(machine, &[port])
 }
 
-fn check_two<S: Ledger, B: Ledger, T: Ledger>(
+fn check_two<O: Origin, S: Ledger, B: Ledger, T: Ledger>(
     machine: &Machine<Pins>,
-    first: &Port<S, B, T>,
-    second: &Port<S, B, T>,
+    first: &Port<O, S, B, T>,
+    second: &Port<O, S, B, T>,
 ) -> Result<(), Mismatch> {
     check_receipts(machine, &[first, second])
 }
@@ -97,6 +101,8 @@ fn hits_a_breakpoint<O: Origin, S: Ledger, B: Ledger, T: Ledger, R: Wait>(
 ) -> Option<bool>
     requires replays { IsReplayOf O.start machine }
     requires base { kind_counts machine.journal ≡ O.base }
+    requires machine { machine ≡ O.machine }
+    requires history { blanks.history ≡ O.book }
     requires steps { (blanks.steps.name ≡ S.name) × (blanks.steps.parts ≡ S.parts) × (S.parts ≡ 1) }
     requires bells { (blanks.bells.name ≡ B.name) × (blanks.bells.parts ≡ B.parts) × (B.parts ≡ 1) }
     requires others { (blanks.others.name ≡ T.name) × (blanks.others.parts ≡ T.parts) × (T.parts ≡ 1) }
@@ -160,6 +166,8 @@ fn comes_back<O: Origin, S: Ledger, B: Ledger, T: Ledger>(
 ) -> Option<Refusal>
     requires replays { IsReplayOf O.start machine }
     requires base { kind_counts machine.journal ≡ O.base }
+    requires machine { machine ≡ O.machine }
+    requires history { blanks.history ≡ O.book }
     requires steps { (blanks.steps.name ≡ S.name) × (blanks.steps.parts ≡ S.parts) × (S.parts ≡ ports) }
     requires bells { (blanks.bells.name ≡ B.name) × (blanks.bells.parts ≡ B.parts) × (B.parts ≡ ports) }
     requires others { (blanks.others.name ≡ T.name) × (blanks.others.parts ≡ T.parts) × (T.parts ≡ ports) }
@@ -239,6 +247,8 @@ fn marks_full<O: Origin, S: Ledger, B: Ledger, T: Ledger, R: Wait>(
 ) -> Option<bool>
     requires replays { IsReplayOf O.start machine }
     requires base { kind_counts machine.journal ≡ O.base }
+    requires machine { machine ≡ O.machine }
+    requires history { blanks.history ≡ O.book }
     requires steps { (blanks.steps.name ≡ S.name) × (blanks.steps.parts ≡ S.parts) × (S.parts ≡ 1) }
     requires bells { (blanks.bells.name ≡ B.name) × (blanks.bells.parts ≡ B.parts) × (B.parts ≡ 1) }
     requires others { (blanks.others.name ≡ T.name) × (blanks.others.parts ≡ T.parts) × (T.parts ≡ 1) }

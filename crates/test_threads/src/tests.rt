@@ -17,7 +17,9 @@ use self::machines::{leads_there, looping};
 use evm_core::Machine;
 use evm_devs::Pins;
 use evm_ram::BASE;
-use evm_shared::{Blanks, EventCounts, Finished, Origin, Port, Shared, check_receipts};
+use evm_shared::{
+    BlankHistory, Blanks, EventCounts, Finished, Origin, Port, Shared, check_receipts,
+};
 use std::alloc::Global;
 use std::marker::Brand;
 use std::process::Abort;
@@ -41,8 +43,8 @@ enum Play {
 
 /// All ports, whether each call answered what it must, and how many Bells were delivered.
 #[derive(Drop)]
-struct Played<S: Ledger, B: Ledger, T: Ledger> {
-    ports: Vec<Port<S, B, T>>,
+struct Played<O: Origin, S: Ledger, B: Ledger, T: Ledger> {
+    ports: Vec<Port<O, S, B, T>>,
     right: bool,
     bells: u64,
 }
@@ -66,22 +68,23 @@ fn blanks() -> Blanks
         steps: Blank::new(3),
         bells: Blank::new(3),
         others: Blank::new(3),
+        history: BlankHistory::new(),
     }
 }
 
 // Whether the receipts and marks of three ports are true.
-fn are_true<S: Ledger, B: Ledger, T: Ledger>(
+fn are_true<O: Origin, S: Ledger, B: Ledger, T: Ledger>(
     machine: &Machine<Pins>,
-    first: &Port<S, B, T>,
-    second: &Port<S, B, T>,
-    third: &Port<S, B, T>,
+    first: &Port<O, S, B, T>,
+    second: &Port<O, S, B, T>,
+    third: &Port<O, S, B, T>,
 ) -> bool {
     check_receipts(machine, &[first, second, third]) == Ok(())
 }
 
 // What a machine that is no longer shared shows.
-fn seen<S: Ledger, B: Ledger, T: Ledger>(
-    finished: Finished<Pins, S, B, T>,
+fn seen<O: Origin, S: Ledger, B: Ledger, T: Ledger>(
+    finished: Finished<Pins, O, S, B, T>,
     right: bool,
     bells: u64,
 ) -> Option<Outcome> {
@@ -115,6 +118,8 @@ fn play_on<
 >(rt: &R, alloc: Global, machine: Machine<Pins>, blanks: Blanks, which: Play) -> Option<Outcome>
     requires replays { IsReplayOf O.start machine }
     requires base { kind_counts machine.journal ≡ O.base }
+    requires machine { machine ≡ O.machine }
+    requires history { blanks.history ≡ O.book }
     requires steps { (blanks.steps.name ≡ S.name) × (blanks.steps.parts ≡ S.parts) × (S.parts ≡ 3) }
     requires bells { (blanks.bells.name ≡ B.name) × (blanks.bells.parts ≡ B.parts) × (B.parts ≡ 3) }
     requires others { (blanks.others.name ≡ T.name) × (blanks.others.parts ≡ T.parts) × (T.parts ≡ 3) }

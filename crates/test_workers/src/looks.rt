@@ -11,7 +11,7 @@ use evm_bells::Closed;
 use evm_core::{Event, EventLine, Machine};
 use evm_devs::AnyDevice;
 use evm_lines::LINES;
-use evm_shared::{EventCounts, Finished, Made, Mismatch, Port, check_receipts};
+use evm_shared::{EventCounts, Finished, Made, Mismatch, Origin, Port, check_receipts};
 use std::alloc::Global;
 use std::sync::ledger::Ledger;
 
@@ -36,7 +36,7 @@ pub(crate) struct Seen {
     pub(crate) replayed: bool,
 }
 
-fn row<S: Ledger, B: Ledger, T: Ledger>(port: Option<&Port<S, B, T>>) -> Row {
+fn row<O: Origin, S: Ledger, B: Ledger, T: Ledger>(port: Option<&Port<O, S, B, T>>) -> Row {
     let Some(port) = port else {
         return [0; 6];
     };
@@ -52,7 +52,7 @@ fn row<S: Ledger, B: Ledger, T: Ledger>(port: Option<&Port<S, B, T>>) -> Row {
 }
 
 // The Steps of a port's receipts.
-fn steps_of<S: Ledger, B: Ledger, T: Ledger>(port: &Port<S, B, T>) -> u64 {
+fn steps_of<O: Origin, S: Ledger, B: Ledger, T: Ledger>(port: &Port<O, S, B, T>) -> u64 {
     let mut steps = 0;
     for receipt in port.receipts() {
         if let Made::Steps(_, count) = receipt.made {
@@ -62,8 +62,8 @@ fn steps_of<S: Ledger, B: Ledger, T: Ledger>(port: &Port<S, B, T>) -> u64 {
     steps
 }
 
-fn was_called<S: Ledger, B: Ledger, T: Ledger>(
-    ports: &[Port<S, B, T>],
+fn was_called<O: Origin, S: Ledger, B: Ledger, T: Ledger>(
+    ports: &[Port<O, S, B, T>],
     workers: u8,
     gate: &Gates,
 ) -> bool {
@@ -157,35 +157,35 @@ fn are_counted(totals: EventCounts, machine: &Machine<AnyDevice>) -> bool {
     totals.bells == bells_of(machine) && events == machine.event_count()
 }
 
-fn check_two<S: Ledger, B: Ledger, T: Ledger>(
+fn check_two<O: Origin, S: Ledger, B: Ledger, T: Ledger>(
     machine: &Machine<AnyDevice>,
-    first: &Port<S, B, T>,
-    second: &Port<S, B, T>,
+    first: &Port<O, S, B, T>,
+    second: &Port<O, S, B, T>,
 ) -> Result<(), Mismatch> {
     check_receipts(machine, &[first, second])
 }
 
-fn have_each_bell<S: Ledger, B: Ledger, T: Ledger>(
+fn have_each_bell<O: Origin, S: Ledger, B: Ledger, T: Ledger>(
     machine: &Machine<AnyDevice>,
-    first: &Port<S, B, T>,
-    second: &Port<S, B, T>,
+    first: &Port<O, S, B, T>,
+    second: &Port<O, S, B, T>,
 ) -> bool {
     checked_receipts_have_each_bell(machine, &[first, second])
 }
 
 // Whether the receipts of the only port are true, by both checks.
-fn is_one_checked<S: Ledger, B: Ledger, T: Ledger>(
+fn is_one_checked<O: Origin, S: Ledger, B: Ledger, T: Ledger>(
     machine: &Machine<AnyDevice>,
-    port: &Port<S, B, T>,
+    port: &Port<O, S, B, T>,
 ) -> bool {
     check_receipts(machine, &[port]).is_ok() && checked_receipts_have_each_bell(machine, &[port])
 }
 
 // Whether the receipts of the first two ports are true, by both checks. The end of the sharing has checked all.
-fn is_checked<S: Ledger, B: Ledger, T: Ledger>(
+fn is_checked<O: Origin, S: Ledger, B: Ledger, T: Ledger>(
     machine: &Machine<AnyDevice>,
-    first: &Port<S, B, T>,
-    second: Option<&Port<S, B, T>>,
+    first: &Port<O, S, B, T>,
+    second: Option<&Port<O, S, B, T>>,
 ) -> bool {
     match second {
         None => is_one_checked(machine, first),
@@ -196,12 +196,12 @@ fn is_checked<S: Ledger, B: Ledger, T: Ledger>(
 }
 
 // All but the replay. None if there is no port.
-fn look_at<S: Ledger, B: Ledger, T: Ledger>(
+fn look_at<O: Origin, S: Ledger, B: Ledger, T: Ledger>(
     workers: u8,
     gate: &Gates,
     totals: EventCounts,
     machine: &Machine<AnyDevice>,
-    ports: &[Port<S, B, T>],
+    ports: &[Port<O, S, B, T>],
 ) -> Option<Seen> {
     let first = ports.get(0)?;
     Some(Seen {
@@ -215,12 +215,12 @@ fn look_at<S: Ledger, B: Ledger, T: Ledger>(
 }
 
 /// Looks at all. None if there is no port.
-pub(crate) fn look<S: Ledger, B: Ledger, T: Ledger>(
+pub(crate) fn look<O: Origin, S: Ledger, B: Ledger, T: Ledger>(
     alloc: Global,
     plan: Plan,
     workers: u8,
     gate: &Gates,
-    finished: Finished<AnyDevice, S, B, T>,
+    finished: Finished<AnyDevice, O, S, B, T>,
 ) -> Option<Seen> {
     let Finished {
         machine,

@@ -34,7 +34,7 @@ const RECEIPTS: u32 = 256;
 fn act<O: Origin, S: Ledger, B: Ledger, T: Ledger, R: Wait>(
     rt: &R,
     shared: &Shared<AnyDevice, O, S, B, T>,
-    port: &mut Port<S, B, T>,
+    port: &mut Port<O, S, B, T>,
     breaks: bool,
     gate: &Gates,
 ) {
@@ -49,10 +49,10 @@ fn act<O: Origin, S: Ledger, B: Ledger, T: Ledger, R: Wait>(
 fn act_by<O: Origin, S: Ledger, B: Ledger, T: Ledger, R: Wait>(
     rt: &R,
     shared: &Shared<AnyDevice, O, S, B, T>,
-    mut port: Port<S, B, T>,
+    mut port: Port<O, S, B, T>,
     breaks: bool,
     gate: &Gates,
-) -> Port<S, B, T> {
+) -> Port<O, S, B, T> {
     act(rt, shared, &mut port, breaks, gate);
     port
 }
@@ -68,7 +68,7 @@ fn run_all<
     rt: &R,
     shared: &Shared<AnyDevice, O, S, B, T>,
     bells: &Bells,
-    workers: &mut [Worker<S, B, T>],
+    workers: &mut [Worker<O, S, B, T>],
     gate: &Gates,
 ) -> u64
     requires { All (λ (w : WorkerValue). w.taker.bells ≡ bells.now.id) workers.old }
@@ -90,9 +90,9 @@ fn run_own<
     rt: &R,
     shared: &Shared<AnyDevice, O, S, B, T>,
     bells: &Bells,
-    mut workers: Vec<Worker<S, B, T>>,
+    mut workers: Vec<Worker<O, S, B, T>>,
     gate: &Gates,
-) -> (Vec<Worker<S, B, T>>, u64)
+) -> (Vec<Worker<O, S, B, T>>, u64)
     requires { All (λ (w : WorkerValue). w.taker.bells ≡ bells.now.id) workers.items }
 {
     let number = run_all(rt, shared, bells, workers.as_mut_slice(), gate);
@@ -101,9 +101,9 @@ fn run_own<
 
 /// What a play gives back.
 #[derive(Drop)]
-struct Played<S: Ledger, B: Ledger, T: Ledger> {
-    port: Port<S, B, T>,
-    workers: Vec<Worker<S, B, T>>,
+struct Played<O: Origin, S: Ledger, B: Ledger, T: Ledger> {
+    port: Port<O, S, B, T>,
+    workers: Vec<Worker<O, S, B, T>>,
     /// Of the refusal that ended a worker, 0 for none.
     number: u64,
 }
@@ -119,19 +119,19 @@ fn beside<
     rt: &R,
     shared: &Shared<AnyDevice, O, S, B, T>,
     bells: &Bells,
-    port: Port<S, B, T>,
-    workers: Vec<Worker<S, B, T>>,
+    port: Port<O, S, B, T>,
+    workers: Vec<Worker<O, S, B, T>>,
     breaks: bool,
     gate: &Gates,
-) -> Played<S, B, T>
+) -> Played<O, S, B, T>
     requires { All (λ (w : WorkerValue). w.taker.bells ≡ bells.now.id) workers.items }
 {
     let (port, (workers, number)) = thread::join(
         rt,
-        move || -> Port<S, B, T>
+        move || -> Port<O, S, B, T>
             requires { IsSync R.row }
         { act_by(rt, shared, port, breaks, gate) },
-        move || -> (Vec<Worker<S, B, T>>, u64)
+        move || -> (Vec<Worker<O, S, B, T>>, u64)
             requires { IsSync R.row × All (λ (w : WorkerValue). w.taker.bells ≡ bells.now.id) workers.items }
         { run_own(rt, shared, bells, workers, gate) },
     );
@@ -146,7 +146,7 @@ fn beside<
 fn commit_many<O: Origin, S: Ledger, B: Ledger, T: Ledger, R: Wait>(
     rt: &R,
     shared: &Shared<AnyDevice, O, S, B, T>,
-    port: &mut Port<S, B, T>,
+    port: &mut Port<O, S, B, T>,
     count: u32,
 ) {
     let burst = Burst::empty(Hart::default());
@@ -167,10 +167,10 @@ fn turn<
     rt: &R,
     alloc: Global,
     shared: &Shared<AnyDevice, O, S, B, T>,
-    mut ports: Vec<Port<S, B, T>>,
+    mut ports: Vec<Port<O, S, B, T>>,
     case: &PortCase,
     gate: &Gates,
-) -> Option<Played<S, B, T>> {
+) -> Option<Played<O, S, B, T>> {
     let port = ports.pop()?;
     let Ok((bells, _, takers)) = Bells::new(alloc, case.workers) else {
         return None;
@@ -190,10 +190,10 @@ fn play<
     rt: &R,
     alloc: Global,
     shared: &Shared<AnyDevice, O, S, B, T>,
-    ports: Vec<Port<S, B, T>>,
+    ports: Vec<Port<O, S, B, T>>,
     case: &PortCase,
     gate: &Gates,
-) -> Option<(Vec<Port<S, B, T>>, u64)> {
+) -> Option<(Vec<Port<O, S, B, T>>, u64)> {
     let Played {
         mut port,
         workers,
@@ -225,6 +225,8 @@ fn share<
 ) -> Option<(Seen, u64)>
     requires replays { IsReplayOf O.start machine }
     requires base { kind_counts machine.journal ≡ O.base }
+    requires machine { machine ≡ O.machine }
+    requires history { blanks.history ≡ O.book }
     requires steps { (blanks.steps.name ≡ S.name) × (blanks.steps.parts ≡ S.parts) × (S.parts ≡ ports) }
     requires bells { (blanks.bells.name ≡ B.name) × (blanks.bells.parts ≡ B.parts) × (B.parts ≡ ports) }
     requires others { (blanks.others.name ≡ T.name) × (blanks.others.parts ≡ T.parts) × (T.parts ≡ ports) }

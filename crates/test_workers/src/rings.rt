@@ -96,9 +96,11 @@ fn ended<
     cpus: u8,
     beside: &Beside<'_>,
     turns: u32,
-) -> Option<(Finished<AnyDevice, S, B, T>, Closed)>
+) -> Option<(Finished<AnyDevice, O, S, B, T>, Closed)>
     requires replays { IsReplayOf O.start machine }
     requires base { kind_counts machine.journal ≡ O.base }
+    requires machine { machine ≡ O.machine }
+    requires history { blanks.history ≡ O.book }
     requires steps { (blanks.steps.name ≡ S.name) × (blanks.steps.parts ≡ S.parts) × (S.parts ≡ cpus) }
     requires bells { (blanks.bells.name ≡ B.name) × (blanks.bells.parts ≡ B.parts) × (B.parts ≡ cpus) }
     requires others { (blanks.others.name ≡ T.name) × (blanks.others.parts ≡ T.parts) × (T.parts ≡ cpus) }
@@ -132,6 +134,8 @@ fn seen<
 ) -> Option<(Seen, Sums)>
     requires replays { IsReplayOf O.start machine }
     requires base { kind_counts machine.journal ≡ O.base }
+    requires machine { machine ≡ O.machine }
+    requires history { blanks.history ≡ O.book }
     requires steps { (blanks.steps.name ≡ S.name) × (blanks.steps.parts ≡ S.parts) × (S.parts ≡ cpus) }
     requires bells { (blanks.bells.name ≡ B.name) × (blanks.bells.parts ≡ B.parts) × (B.parts ≡ cpus) }
     requires others { (blanks.others.name ≡ T.name) × (blanks.others.parts ≡ T.parts) × (T.parts ≡ cpus) }

@@ -6,7 +6,7 @@ ghost use Rattle.evm_shared.specs.Workers.{WorkerValue};
 
 use evm_bells::{Bells, Taker};
 use evm_room::with_room;
-use evm_shared::{Blanks, Port, Worker};
+use evm_shared::{BlankHistory, Blanks, Origin, Port, Worker};
 use std::alloc::Global;
 use std::sync::ledger::{Blank, Ledger};
 
@@ -18,16 +18,17 @@ pub(crate) fn blanks(ports: u8) -> Blanks
         steps: Blank::new(u64::from(ports)),
         bells: Blank::new(u64::from(ports)),
         others: Blank::new(u64::from(ports)),
+        history: BlankHistory::new(),
     }
 }
 
 // A worker of a processor.
-fn worker_of<S: Ledger, B: Ledger, T: Ledger>(
+fn worker_of<O: Origin, S: Ledger, B: Ledger, T: Ledger>(
     alloc: Global,
     cpu: u8,
-    port: Port<S, B, T>,
+    port: Port<O, S, B, T>,
     taker: Taker,
-) -> Option<Worker<S, B, T>>
+) -> Option<Worker<O, S, B, T>>
     ensures { IfSome result (λ w. w.taker ≡ taker) }
 {
     match Worker::new(alloc, cpu, port, taker) {
@@ -37,13 +38,13 @@ fn worker_of<S: Ledger, B: Ledger, T: Ledger>(
 }
 
 /// A worker for each of some processors.
-pub(crate) fn workers_of<S: Ledger, B: Ledger, T: Ledger>(
+pub(crate) fn workers_of<O: Origin, S: Ledger, B: Ledger, T: Ledger>(
     alloc: Global,
     bells: &Bells,
-    mut ports: Vec<Port<S, B, T>>,
+    mut ports: Vec<Port<O, S, B, T>>,
     mut takers: Vec<Taker>,
     count: u8,
-) -> Option<Vec<Worker<S, B, T>>>
+) -> Option<Vec<Worker<O, S, B, T>>>
     requires { All (IsNewTaker bells.now.id) takers.items }
     ensures { IfSome result (λ workers. All (λ (w : WorkerValue). w.taker.bells ≡ bells.now.id) workers.items) }
 {
@@ -63,10 +64,10 @@ pub(crate) fn workers_of<S: Ledger, B: Ledger, T: Ledger>(
 }
 
 /// The ports of workers that are done, the last first.
-pub(crate) fn ports_of<S: Ledger, B: Ledger, T: Ledger>(
+pub(crate) fn ports_of<O: Origin, S: Ledger, B: Ledger, T: Ledger>(
     alloc: Global,
-    mut workers: Vec<Worker<S, B, T>>,
-) -> Option<Vec<Port<S, B, T>>> {
+    mut workers: Vec<Worker<O, S, B, T>>,
+) -> Option<Vec<Port<O, S, B, T>>> {
     let mut ports = with_room(alloc, workers.len()).ok()?;
     while let Some(worker) = workers.pop() {
         let (port, _) = worker.into_parts();

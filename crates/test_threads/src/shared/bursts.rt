@@ -53,7 +53,7 @@ fn receipt(position: u64, made: Made) -> Receipt {
 fn breaks_a_burst<O: Origin, S: Ledger, B: Ledger, T: Ledger, R: Wait>(
     rt: &R,
     shared: &Shared<Pins, O, S, B, T>,
-    port: &mut Port<S, B, T>,
+    port: &mut Port<O, S, B, T>,
     mut cache: Cache,
 ) -> Option<bool> {
     let poked = shared.command(rt, port, &jump());
@@ -77,7 +77,7 @@ fn breaks_a_burst<O: Origin, S: Ledger, B: Ledger, T: Ledger, R: Wait>(
 }
 
 // Its receipts: positions grow by the Steps that were made.
-fn has_its_receipts<S: Ledger, B: Ledger, T: Ledger>(port: &Port<S, B, T>) -> bool {
+fn has_its_receipts<O: Origin, S: Ledger, B: Ledger, T: Ledger>(port: &Port<O, S, B, T>) -> bool {
     let wanted = [
         receipt(0, Made::One(jump())),
         receipt(1, Made::Steps(0, 1)),
@@ -98,6 +98,8 @@ fn breaks_a_burst_of<O: Origin, S: Ledger, B: Ledger, T: Ledger, R: Wait>(
 ) -> Option<bool>
     requires replays { IsReplayOf O.start machine }
     requires base { kind_counts machine.journal ≡ O.base }
+    requires machine { machine ≡ O.machine }
+    requires history { blanks.history ≡ O.book }
     requires steps { (blanks.steps.name ≡ S.name) × (blanks.steps.parts ≡ S.parts) × (S.parts ≡ 1) }
     requires bells { (blanks.bells.name ≡ B.name) × (blanks.bells.parts ≡ B.parts) × (B.parts ≡ 1) }
     requires others { (blanks.others.name ≡ T.name) × (blanks.others.parts ≡ T.parts) × (T.parts ≡ 1) }

@@ -29,8 +29,8 @@ fn ring_twice(bells: &Bells, mut ringer: Ringer, gate: &Meeting) -> (Ringer, [bo
 
 /// A port and a taker, and what two delivers answered.
 #[derive(Drop)]
-struct Delivered<S: Ledger, B: Ledger, T: Ledger> {
-    port: Port<S, B, T>,
+struct Delivered<O: Origin, S: Ledger, B: Ledger, T: Ledger> {
+    port: Port<O, S, B, T>,
     taker: Taker,
     words: [Result<u64, Refusal>; 2],
 }
@@ -40,10 +40,10 @@ fn deliver_twice<O: Origin, S: Ledger, B: Ledger, T: Ledger, R: Wait>(
     rt: &R,
     shared: &Shared<Pins, O, S, B, T>,
     bells: &Bells,
-    mut port: Port<S, B, T>,
+    mut port: Port<O, S, B, T>,
     mut taker: Taker,
     gate: &Meeting,
-) -> Delivered<S, B, T>
+) -> Delivered<O, S, B, T>
     requires { taker.bells ≡ bells.now.id }
     ensures { result.taker.bells ≡ bells.now.id }
 {
@@ -68,8 +68,8 @@ pub(super) fn play<
     rt: &R,
     alloc: Global,
     shared: &Shared<Pins, O, S, B, T>,
-    mut ports: Vec<Port<S, B, T>>,
-) -> Option<Played<S, B, T>> {
+    mut ports: Vec<Port<O, S, B, T>>,
+) -> Option<Played<O, S, B, T>> {
     let port = ports.pop()?;
     let (all_bells, ringer, takers) = Bells::new(alloc, 3).ok()?;
     let bells = &all_bells;
@@ -82,7 +82,7 @@ pub(super) fn play<
             requires { (ringer.bells ≡ bells.now.id) × (bells.now.cpus ≡ 3) }
             ensures { result.0.bells ≡ bells.entry.now.id }
         { ring_twice(bells, ringer, gate) },
-        move || -> Delivered<S, B, T>
+        move || -> Delivered<O, S, B, T>
             requires { IsSync R.row × (taker.bells ≡ bells.now.id) }
             ensures { result.taker.bells ≡ bells.entry.now.id }
         { deliver_twice(rt, shared, bells, port, taker, gate) },

@@ -21,12 +21,12 @@ use std::sync::ledger::Ledger;
 use std::thread::Threads;
 
 /// A worker; a port and a taker that come back are used again.
-pub(super) fn worker_of<S: Ledger, B: Ledger, T: Ledger>(
+pub(super) fn worker_of<O: Origin, S: Ledger, B: Ledger, T: Ledger>(
     alloc: Global,
     cpu: u8,
-    port: Port<S, B, T>,
+    port: Port<O, S, B, T>,
     taker: Taker,
-) -> Option<Worker<S, B, T>>
+) -> Option<Worker<O, S, B, T>>
     ensures { IfSome result (λ w. (w.port ≡ port) × (w.taker ≡ taker)) }
 {
     match Worker::new(alloc, cpu, port, taker) {
@@ -46,8 +46,8 @@ fn turned<
     rt: &R,
     shared: &Shared<Pins, O, S, B, T>,
     bells: &Bells,
-    mut worker: Worker<S, B, T>,
-) -> (Port<S, B, T>, Taker, bool)
+    mut worker: Worker<O, S, B, T>,
+) -> (Port<O, S, B, T>, Taker, bool)
     requires { worker.taker.bells ≡ bells.now.id }
     ensures { result.1.bells ≡ bells.now.id }
 {
@@ -68,8 +68,8 @@ fn one_turn<
     rt: &R,
     alloc: Global,
     shared: &Shared<Pins, O, S, B, T>,
-    mut ports: Vec<Port<S, B, T>>,
-) -> Option<(Vec<Port<S, B, T>>, bool)> {
+    mut ports: Vec<Port<O, S, B, T>>,
+) -> Option<(Vec<Port<O, S, B, T>>, bool)> {
     let (bells, ringer, takers) = Bells::new(alloc, 3).ok()?;
     let (first, second, third) = three_of(&bells, takers)?;
     let worker = worker_of(alloc, 0, ports.pop()?, first)?;
@@ -94,6 +94,8 @@ fn shared_once<
 ) -> Result<Option<bool>, Machine<Pins>>
     requires replays { IsReplayOf O.start machine }
     requires base { kind_counts machine.journal ≡ O.base }
+    requires machine { machine ≡ O.machine }
+    requires history { blanks.history ≡ O.book }
     requires steps { (blanks.steps.name ≡ S.name) × (blanks.steps.parts ≡ S.parts) × (S.parts ≡ 3) }
     requires bells { (blanks.bells.name ≡ B.name) × (blanks.bells.parts ≡ B.parts) × (B.parts ≡ 3) }
     requires others { (blanks.others.name ≡ T.name) × (blanks.others.parts ≡ T.parts) × (T.parts ≡ 3) }

@@ -7,7 +7,7 @@ use evm_devs::AnyDevice;
 use evm_elf::{read_image, write_bytes};
 use evm_journal::{Answer, Devices, Event, EventLine, Journal, Machine, read_history};
 use evm_ram::Image;
-use evm_shared::Blanks;
+use evm_shared::{BlankHistory, Blanks};
 use evm_streams::{Cause, WriteFault};
 use std::alloc::Global;
 use std::io::{self, Error, ErrorKind, Write};
@@ -22,6 +22,7 @@ fn blanks() -> Blanks
         steps: Blank::new(2),
         bells: Blank::new(2),
         others: Blank::new(2),
+        history: BlankHistory::new(),
     }
 }
 

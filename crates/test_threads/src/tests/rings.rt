@@ -60,8 +60,8 @@ fn ring_beside<
     shared: &Shared<Pins, O, S, B, T>,
     bells: &Bells,
     ringer: Ringer,
-    workers: Vec<Worker<S, B, T>>,
-) -> (Rung, Vec<Worker<S, B, T>>, bool)
+    workers: Vec<Worker<O, S, B, T>>,
+) -> (Rung, Vec<Worker<O, S, B, T>>, bool)
     requires ringer { (ringer.bells ≡ bells.now.id) × (bells.now.cpus ≡ 3) }
     requires workers { All (λ (w : WorkerValue). w.taker.bells ≡ bells.now.id) workers.items }
     ensures ringer { result.0.ringer.bells ≡ bells.now.id }
@@ -75,7 +75,7 @@ fn ring_beside<
             requires { (ringer.bells ≡ bells.now.id) × (bells.now.cpus ≡ 3) }
             ensures { result.ringer.bells ≡ bells.entry.now.id }
         { ring_many(bells, ringer, gate) },
-        move || -> (Vec<Worker<S, B, T>>, bool)
+        move || -> (Vec<Worker<O, S, B, T>>, bool)
             requires { IsSync R.row × All (λ (w : WorkerValue). w.taker.bells ≡ bells.now.id) workers.items }
             ensures { All (λ (w : WorkerValue). w.taker.bells ≡ bells.entry.now.id) result.0.items }
         { run_all(rt, shared, bells, workers, TURNS, gate) },
@@ -95,9 +95,9 @@ pub(super) fn play<
     rt: &R,
     alloc: Global,
     shared: &Shared<Pins, O, S, B, T>,
-    mut ports: Vec<Port<S, B, T>>,
+    mut ports: Vec<Port<O, S, B, T>>,
     second_cpu: u8,
-) -> Option<Played<S, B, T>> {
+) -> Option<Played<O, S, B, T>> {
     let idle = ports.pop()?;
     let (bells, ringer, takers) = Bells::new(alloc, 3).ok()?;
     let (first, second, third) = three_of(&bells, takers)?;

@@ -23,13 +23,13 @@ use std::thread::Threads;
 const TURNS: u32 = 10;
 
 /// A worker of processor 0, and one of another or of the same.
-pub(super) fn workers_of<S: Ledger, B: Ledger, T: Ledger>(
+pub(super) fn workers_of<O: Origin, S: Ledger, B: Ledger, T: Ledger>(
     alloc: Global,
     bells: &Bells,
-    mut ports: Vec<Port<S, B, T>>,
+    mut ports: Vec<Port<O, S, B, T>>,
     takers: (Taker, Taker),
     second_cpu: u8,
-) -> Option<Vec<Worker<S, B, T>>>
+) -> Option<Vec<Worker<O, S, B, T>>>
     requires { (takers.0.bells ≡ bells.now.id) × (takers.1.bells ≡ bells.now.id) }
     ensures { IfSome result (λ workers. All (λ (w : WorkerValue). w.taker.bells ≡ bells.now.id) workers.items) }
 {
@@ -51,10 +51,10 @@ pub(super) fn run_all<
     rt: &R,
     shared: &Shared<Pins, O, S, B, T>,
     bells: &Bells,
-    mut workers: Vec<Worker<S, B, T>>,
+    mut workers: Vec<Worker<O, S, B, T>>,
     turns: u32,
     gate: &Meeting,
-) -> (Vec<Worker<S, B, T>>, bool)
+) -> (Vec<Worker<O, S, B, T>>, bool)
     requires { All (λ (w : WorkerValue). w.taker.bells ≡ bells.now.id) workers.items }
     ensures { All (λ (w : WorkerValue). w.taker.bells ≡ bells.now.id) result.0.items }
 {
@@ -63,11 +63,11 @@ pub(super) fn run_all<
 }
 
 /// The ports of two workers that are done, and their takers.
-pub(super) fn parts_of<S: Ledger, B: Ledger, T: Ledger>(
+pub(super) fn parts_of<O: Origin, S: Ledger, B: Ledger, T: Ledger>(
     alloc: Global,
     bells: &Bells,
-    mut workers: Vec<Worker<S, B, T>>,
-) -> Option<(Vec<Port<S, B, T>>, (Taker, Taker))>
+    mut workers: Vec<Worker<O, S, B, T>>,
+) -> Option<(Vec<Port<O, S, B, T>>, (Taker, Taker))>
     requires { All (λ (w : WorkerValue). w.taker.bells ≡ bells.now.id) workers.items }
     ensures { IfSome result (λ parts. (parts.1.0.bells ≡ bells.now.id) × (parts.1.1.bells ≡ bells.now.id)) }
 {
@@ -86,10 +86,10 @@ pub(super) fn parts_of<S: Ledger, B: Ledger, T: Ledger>(
 fn command<O: Origin, S: Ledger, B: Ledger, T: Ledger, R: Wait>(
     rt: &R,
     shared: &Shared<Pins, O, S, B, T>,
-    mut port: Port<S, B, T>,
+    mut port: Port<O, S, B, T>,
     breaks: bool,
     gate: &Meeting,
-) -> (Port<S, B, T>, bool) {
+) -> (Port<O, S, B, T>, bool) {
     gate.wait_for(2);
     if !breaks {
         gate.come();
@@ -112,20 +112,20 @@ fn command_beside<
     alloc: Global,
     shared: &Shared<Pins, O, S, B, T>,
     bells: &Bells,
-    workers: Vec<Worker<S, B, T>>,
-    port: Port<S, B, T>,
+    workers: Vec<Worker<O, S, B, T>>,
+    port: Port<O, S, B, T>,
     breaks: bool,
-) -> Option<(Vec<Port<S, B, T>>, bool)>
+) -> Option<(Vec<Port<O, S, B, T>>, bool)>
     requires { All (λ (w : WorkerValue). w.taker.bells ≡ bells.now.id) workers.items }
 {
     let meeting = Meeting::new(if breaks { 4 } else { 0 }, 3);
     let gate = &meeting;
     let ((port, done), (workers, ended)) = thread::join(
         rt,
-        move || -> (Port<S, B, T>, bool)
+        move || -> (Port<O, S, B, T>, bool)
             requires { IsSync R.row }
         { command(rt, shared, port, breaks, gate) },
-        move || -> (Vec<Worker<S, B, T>>, bool)
+        move || -> (Vec<Worker<O, S, B, T>>, bool)
             requires { IsSync R.row × All (λ (w : WorkerValue). w.taker.bells ≡ bells.now.id) workers.items }
             ensures { All (λ (w : WorkerValue). w.taker.bells ≡ bells.entry.now.id) result.0.items }
         { run_all(rt, shared, bells, workers, TURNS, gate) },
@@ -147,9 +147,9 @@ pub(super) fn play<
     rt: &R,
     alloc: Global,
     shared: &Shared<Pins, O, S, B, T>,
-    mut ports: Vec<Port<S, B, T>>,
+    mut ports: Vec<Port<O, S, B, T>>,
     breaks: bool,
-) -> Option<Played<S, B, T>> {
+) -> Option<Played<O, S, B, T>> {
     let port = ports.pop()?;
     let (bells, _ringer, takers) = Bells::new(alloc, 3).ok()?;
     let (first, second, _third) = three_of(&bells, takers)?;

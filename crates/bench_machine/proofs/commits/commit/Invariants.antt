@@ -2,7 +2,7 @@ use Rattle.evm_shared.specs.EventCounts.{kind_counts}
 use Rattle.bench_machine.proofs.commits.commit.Given as goal
 
 abbrev pub ghosts-commit_by-O-Origin : goal.ghosts-commit_by-O-Origin
-ghosts-commit_by-O-Origin g a = record { start = a.machine; base = kind_counts a.machine.journal }
+ghosts-commit_by-O-Origin g a = record { start = a.machine; base = kind_counts a.machine.journal; machine = a.machine; book = a.blanks.history }
 
 abbrev pub ghosts-commit_by-S-Ledger : goal.ghosts-commit_by-S-Ledger
 ghosts-commit_by-S-Ledger g a = record { name = a.blanks.steps.name; parts = a.blanks.steps.parts }

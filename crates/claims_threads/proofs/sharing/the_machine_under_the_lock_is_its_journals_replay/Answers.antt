@@ -14,3 +14,6 @@ returns-in-Ok-clause-bells g c =
 pub returns-in-Ok-clause-others : goal.returns-in-Ok-clause-others
 returns-in-Ok-clause-others g c =
     omega (arith, ap (λ (n : EventCounts). n.others) c.in-Ok.ensures.machine.1, ap (λ (n : EventCounts). n.others) c.in-Ok.ensures.totals, others_made c.args.ports.items)
+
+pub returns-in-Ok-clause-history : goal.returns-in-Ok-clause-history
+returns-in-Ok-clause-history g c = let h = c.in-Ok.ensures.history in (h.0, h.1, h.2.replayed, h.2.journaled, h.3, h.4)

@@ -6,7 +6,7 @@ use Rattle.evm_command.proofs.sharing.work.Goals as goal
 
 pub returns-clause-turns : goal.returns-clause-turns
 returns-clause-turns g c =
-    let start = g.O.Origin.start in
+    let start = g.O.Origin.machine in
     let old = c.as_mut_slice.result.now in
     let new = c.run.new.workers in
     let made = turned start c.args.turns old new c.run.ensures.count

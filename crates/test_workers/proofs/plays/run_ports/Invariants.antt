@@ -2,7 +2,7 @@ use Rattle.evm_shared.specs.EventCounts.{kind_counts}
 use Rattle.test_workers.proofs.plays.run_ports.Given as goal
 
 abbrev pub ghosts-share-O-Origin : goal.ghosts-share-O-Origin
-ghosts-share-O-Origin g a = record { start = a.machine; base = kind_counts a.machine.journal }
+ghosts-share-O-Origin g a = record { start = a.machine; base = kind_counts a.machine.journal; machine = a.machine; book = a.blanks.history }
 
 abbrev pub ghosts-share-S-Ledger : goal.ghosts-share-S-Ledger
 ghosts-share-S-Ledger g a = record { name = a.blanks.steps.name; parts = a.blanks.steps.parts }

@@ -16,7 +16,7 @@ returns-in_err-deliver-clause-reason g c =
 pub returns-in_err-commit_into-clause-reason : goal.returns-in_err-commit_into-clause-reason
 returns-in_err-commit_into-clause-reason g c =
     let p = err_from_is_err_and c.from_residual-in_err-commit_into.result c.from_residual-in_err-commit_into.ensures.1 in
-    rw (p.1, p.2, ← c.self.view_is) (lacks_either g.O.Origin.start c.args.bells.now.cpus c.self.inside.cpu _ c.in_err-commit_into.ensures.refused)
+    rw (p.1, p.2, ← c.self.view_is) (lacks_either g.O.Origin.machine c.args.bells.now.cpus c.self.inside.cpu _ c.in_err-commit_into.ensures.refused)
 
 pub returns-in_err-commit_into-clause-refused : goal.returns-in_err-commit_into-clause-refused
 returns-in_err-commit_into-clause-refused g c =

@@ -8,6 +8,6 @@ invariant-loop-turn g l = record {
   cpu : l.self.cpu ≡ l.fn.self.cpu;
   bells : l.self.taker.bells ≡ l.fn.self.taker.bells;
   unrefused : l.self.refused ≡ None;
-  made : MakesTurns g.O.Origin.start l.bells.cpus l.turn l.fn.self l.self;
+  made : MakesTurns g.O.Origin.machine l.bells.cpus l.turn l.fn.self l.self;
   steps : l.fn.self.port.share.steps + l.turn ≤ l.self.port.share.steps;
 }
